@@ -112,7 +112,7 @@ fn call_in(word: &Field<'_>, rest: &[Field<'_>]) -> Result<Call, Fault>
     };
     match (word_of(word.token.bytes()), numbers_of(rest)) {
         (None, _) => Err(unknown),
-        (_, Err(fault)) => Err(fault),
+        (Some(_), Err(fault)) => Err(fault),
         (Some(known), Ok(values)) => Ok(call_from_word(known, values)),
     }
 }

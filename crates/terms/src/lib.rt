@@ -1,4 +1,12 @@
-// Limits that several layers share.
+// Words and limits that several layers share.
+ghost use mathlib.Core.Path.{_≡_};
+ghost use Rattle.terms.specs.Side.{side-number, other-side, better-price};
+
+pub mod side;
+
+pub use side::Side;
+pub use side::SideDebug;
+pub use side::SidePartialEq;
 
 // The last minute that a call may name; above it every hour is closed.
 pub const LAST_MINUTE: u32 = 9_999_999;
@@ -13,3 +21,36 @@ pub const MOMENT_LIMIT: u32 = 4_000_000;
 
 // The most bytes of a day file.
 pub const LONGEST_FILE: usize = 65_536;
+
+// Makers are numbered from 1 to this.
+pub const MAKERS: usize = 16;
+
+impl Side {
+    pub fn number(self) -> u32
+        ensures { λ r. ⌜ r ≡ side-number self ⌝ }
+    {
+        match self {
+            Side::Buy => 1,
+            Side::Sell => 2,
+        }
+    }
+
+    pub fn other(self) -> Side
+        ensures { λ r. ⌜ r ≡ other-side self ⌝ }
+    {
+        match self {
+            Side::Buy => Side::Sell,
+            Side::Sell => Side::Buy,
+        }
+    }
+
+    // Whether a price is better than another: higher for buys, lower for sells.
+    pub fn prefers(self, price: u32, other: u32) -> bool
+        ensures { λ r. ⌜ r ≡ better-price self price other ⌝ }
+    {
+        match self {
+            Side::Buy => price > other,
+            Side::Sell => price < other,
+        }
+    }
+}

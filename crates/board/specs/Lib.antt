@@ -1,0 +1,4 @@
+pub mod Ranks
+pub mod Board
+pub mod Kinds
+pub mod Laws

@@ -1,0 +1,12 @@
+pub mod Books
+pub mod Changing
+pub mod Cuttings
+pub mod Emptying
+pub mod FirstOf
+pub mod Firsts
+pub mod Laddering
+pub mod OrderRank
+pub mod Placed
+pub mod Places
+pub mod Shifts
+pub mod Tested

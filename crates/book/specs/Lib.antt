@@ -1,0 +1,5 @@
+pub mod Ladders
+pub mod Orders
+pub mod Ranks
+pub mod Shelves
+pub mod Sorted
