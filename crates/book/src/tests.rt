@@ -69,12 +69,16 @@ fn ranks<B: Book>(book: &mut B) -> Result<(), Fail> {
     check(book.add(limit(4, Side::Buy, 15_000, 2)))?;
     check(book.add(limit(5, Side::Sell, 15_002, 3)))?;
     check(book.add(limit(6, Side::Sell, 15_003, 1)))?;
+    check(book.add(limit(8, Side::Sell, 15_002, 2)))?;
+    check(book.add(limit(7, Side::Sell, 15_002, 3)))?;
     check(!book.add(limit(6, Side::Buy, 15_003, 1)))?;
     check_first(book, Side::Buy, 3)?;
     check_first(book, Side::Buy, 4)?;
     check_first(book, Side::Buy, 1)?;
     check_first(book, Side::Buy, 2)?;
+    check_first(book, Side::Sell, 8)?;
     check_first(book, Side::Sell, 5)?;
+    check_first(book, Side::Sell, 7)?;
     check_first(book, Side::Sell, 6)?;
     check_eq(book.free(), 256)
 }
