@@ -11,13 +11,13 @@ ghost use Rattle.book.specs.Orders.{Sound, can-add, added, find, lowest, first
 use crate::order::Order;
 use terms::Side;
 
-// A book has a capacity of at most 256, and the live orders by number, each with a size left.
+// Any book: how many orders it can hold, 256 at most, and those that it holds, by number.
 pub trait Book {
     ghost capacity: { Self → ℕ };
 
     ghost orders: { Self → List Order };
 
-    // Adds an order; false where the book is full, the number is live or the size is 0.
+    // Takes an order in, unless there is no place left, its number stands already or it has no size.
     fn add(&mut self, order: Order) -> bool
         ensures answer { λ r. ⌜ r ≡ can-add (capacity (now (self .entry))) order (orders (now (self .entry))) ⌝ }
         ensures orders { λ _. ⌜ orders (now (self .exit)) ≡ added (capacity (now (self .entry))) order (orders (now (self .entry))) ⌝ }

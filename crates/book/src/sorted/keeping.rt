@@ -1,11 +1,11 @@
-// The sorted book as a book.
+// The sorted book, shown to be a book.
 ghost use mathlib.Core.Path.{_≡_};
 ghost use mathlib.Core.List.{[]};
 ghost use Prim.Native.Nat.{_<_, _≤_};
 ghost use lib.ListN.{length};
 ghost use Rattle.std.specs.declared.option.Option.the-variants.{None};
 ghost use Rattle.book.specs.Orders.{Sound, find, place, can-cut, cut, can-wake, woken, first-of, First, lowest-by};
-ghost use Rattle.book.specs.Shelves.{asked};
+ghost use Rattle.book.specs.Shelves.{items, asked};
 ghost use Rattle.book.specs.Sorted.{sorted-orders};
 use crate::book::Book;
 use crate::ladder::Ask;
@@ -20,10 +20,15 @@ impl SortedBook {
     pub fn new() -> Self
         ensures { λ r. ⌜ sorted-orders r ≡ [] ⌝ }
     {
-        SortedBook {
-            buys: Ladder::new(),
-            sells: Ladder::new(),
-        }
+        SortedBook::of(Ladder::new(), Ladder::new())
+    }
+
+    fn of(buys: Ladder, sells: Ladder) -> Self
+        requires buys { ⌜ items buys ≡ [] ⌝ ∗ ⌜ buys .len ≡ 0 ⌝ }
+        requires sells { ⌜ items sells ≡ [] ⌝ ∗ ⌜ sells .len ≡ 0 ⌝ }
+        ensures { λ r. ⌜ sorted-orders r ≡ [] ⌝ }
+    {
+        SortedBook { buys, sells }
     }
 
     fn count(&self) -> usize
