@@ -1,4 +1,6 @@
 // The board of a market: what each maker offers on each side, and the best of a side.
+#![tactic(auto)]
+
 ghost use Rattle.std.specs.Prelude.{◌≡◌, ℕ, Bool, if◌then◌else◌};
 ghost use Rattle.board.specs.Board.{Sides, Lawful, slots_on, slot_of, may_put, putting, lifting, may_take, taking, clear, best, Best};
 

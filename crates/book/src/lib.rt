@@ -1,4 +1,6 @@
 // The members' side of the market: orders, their rank, and what a book of them does.
+#![tactic(auto)]
+
 pub mod book;
 mod ladder;
 pub mod order;

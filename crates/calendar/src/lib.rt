@@ -1,4 +1,6 @@
 // The hours of a venue: for each minute since 00:00 Tokyo time on Monday 1 January 2024, the phase and the session day.
+#![tactic(auto)]
+
 ghost use Rattle.std.specs.Prelude.{◌≡◌, ℕ};
 ghost use Rattle.calendar.specs.declared.phase.Phase.{Phase};
 

@@ -1,4 +1,6 @@
 // Plays a day file from standard input over the yen hours, and prints the tape.
+#![tactic(auto)]
+
 mod play;
 #[cfg(test)]
 mod tests;

@@ -1,4 +1,6 @@
 // Day files: bytes to calls or a fault, and the text of the tape.
+#![tactic(auto)]
+
 pub mod fault;
 pub mod field;
 pub mod print;

@@ -1,4 +1,6 @@
 // The words of the market: calls, tape lines and refusals. The machine that the market is compared with stands in specs/.
+#![tactic(auto)]
+
 ghost use Rattle.std.specs.Prelude.{◌≡◌};
 ghost use Rattle.machine.specs.Words.{refusal_number, turn_line};
 

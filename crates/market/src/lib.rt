@@ -1,4 +1,6 @@
 // A market over any calendar. Each call does what the step of the machine does.
+#![tactic(auto)]
+
 ghost use Rattle.std.specs.Prelude.{◌≡◌, length};
 ghost use Rattle.machine.specs.Laws.{TurnLaw};
 ghost use Rattle.machine.specs.Machine.{start, step};

@@ -1,4 +1,6 @@
 // Lists searched by rank: the place of the first entry, whatever kind of entry the list holds.
+#![tactic(auto)]
+
 ghost use Rattle.std.specs.Prelude.{◌≡◌, ℕ, Bool, true, false, not, map, Option, ◌≢◌};
 ghost use Rattle.rank.specs.Firsts.{through, ahead, leader, first_place, Finds};
 ghost use Rattle.std.specs.Option.{option_map};

@@ -1,4 +1,6 @@
 // Words and limits that several layers share.
+#![tactic(auto)]
+
 ghost use Rattle.std.specs.Prelude.{◌≡◌};
 ghost use Rattle.terms.specs.Limits.{is_price, is_size, is_owner, side_of};
 ghost use Rattle.terms.specs.Side.{side_number, other_side, better_price};
