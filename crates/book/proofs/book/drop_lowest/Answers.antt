@@ -4,12 +4,12 @@ use Rattle.book.specs.Orders.{can_cut}
 use Rattle.book.proofs.Emptying.{none_lowest, lowest_found, lowest_gone, found_cut}
 use Rattle.book.proofs.book.drop_lowest.Goals as goal
 
-pub returns-in-default : goal.returns-in-default
-returns-in-default g c =
-    record { gone = λ t. absurd t; none = λ _. none_lowest (g.B.Book.orders c.args.book.now) c.in-default.ensures; capacity = refl }
+pub returns-in_default : goal.returns-in_default
+returns-in_default g c =
+    record { gone = λ t. absurd t; none = λ _. none_lowest (g.B.Book.orders c.args.book.now) c.in_default.ensures; capacity = refl }
 
-pub returns-in-default-order : goal.returns-in-default-order
-returns-in-default-order g c = absurd (lowest_found c.in-Some.number (g.B.Book.orders c.args.book.now) c.in-Some.ensures c.in-default-order.ensures)
+pub returns-in_default-order : goal.returns-in_default-order
+returns-in_default-order g c = absurd (lowest_found c.in-Some.number (g.B.Book.orders c.args.book.now) c.in-Some.ensures c.in_default-order.ensures)
 
 pub returns : goal.returns
 returns g c =

@@ -3,4 +3,4 @@ use Rattle.book.proofs.ladder.remove_at.Goals as goal
 
 pub returns : goal.returns
 returns g c =
-    shifted_out c.args.all.now c.args.len c.args.at c.rotate-left.new.self c.requires.at c.requires.within c.rotate-left.ensures.after
+    shifted_out c.args.all.now c.args.len c.args.at c.rotate_left.new.self c.requires.at c.requires.within c.rotate_left.ensures.after

@@ -9,8 +9,8 @@ use Rattle.day.proofs.play.calls_text.Goals as goal
 pub loop-numbered-preserved : goal.loop-numbered-preserved
 loop-numbered-preserved g c =
     let inv = c.loop-numbered.invariant in
-    let told = c.call-text.ensures in (
-      piece_more inv.0 _ _ _ _ c.in-ok-push-str.ensures.bytes (c.as-str.ensures.value ∙ c.in-ok-rows.ensures.text)
+    let told = c.call_text.ensures in (
+      piece_more inv.0 _ _ _ _ c.in_ok-push_str.ensures.bytes (c.as_str.ensures.value ∙ c.in_ok-rows.ensures.text)
           (next_call g.C.Calendar.hours _ c.args.market.now.calendar c.args.calls.now c.loop-numbered.numbered-index _ (state_of c.loop-numbered.market) _ inv.1 c.loop-numbered-test.true told.state),
       told.calendar ∙ inv.1,
       search rules,

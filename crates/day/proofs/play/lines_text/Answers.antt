@@ -6,7 +6,7 @@ use Rattle.day.proofs.play.lines_text.Goals as goal
 
 pub loop-line-preserved : goal.loop-line-preserved
 loop-line-preserved c =
-    piece_more c.loop-line.invariant _ _ _ _ c.in-ok-push-str.ensures.bytes (c.as-str.ensures.value ∙ c.in-ok-line-text.ensures)
+    piece_more c.loop-line.invariant _ _ _ _ c.in_ok-push_str.ensures.bytes (c.as_str.ensures.value ∙ c.in_ok-line_text.ensures)
     (at_drop_more line_rows c.args.lines.now c.loop-line.line-index _ c.loop-line-test.true)
 
 pub returns : goal.returns

@@ -5,4 +5,4 @@ use Rattle.day.proofs.play.with_names.Goals as goal
 
 pub returns : goal.returns
 returns c =
-    three_parts tape_names _ _ _ _ _ _ _ c.in-ok-out.ensures.ok c.in-ok-push-str.ensures.bytes refl c.in-ok-push-str-2.ensures.bytes refl
+    three_parts tape_names _ _ _ _ _ _ _ c.in_ok-out.ensures.ok c.in_ok-push_str.ensures.bytes refl c.in_ok-push_str-2.ensures.bytes refl

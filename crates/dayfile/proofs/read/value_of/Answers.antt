@@ -3,10 +3,10 @@ use Rattle.std.proofs.lemmas.List.{at_drop_more, at_drop_all}
 use Rattle.dayfile.specs.Reading.{value_on}
 use Rattle.dayfile.proofs.Digits.{small_more, small_fits}
 use Rattle.dayfile.proofs.read.value_of.Goals as goal
-use Rattle.dayfile.proofs.read.value_of.Goals.{After-saturating-sub}
+use Rattle.dayfile.proofs.read.value_of.Goals.{After-saturating_sub}
 
-low : (c : After-saturating-sub) → c.saturating-sub.result ≤ 207
-low c = omega (arith, c.saturating-sub.ensures)
+low : (c : After-saturating-sub) → c.saturating_sub.result ≤ 207
+low c = omega (arith, c.saturating_sub.ensures)
 
 pub overflow-mul-value : goal.overflow-mul-value
 overflow-mul-value c =
@@ -14,7 +14,7 @@ overflow-mul-value c =
     record { fits = omega arith }
 
 pub overflow-add-value : goal.overflow-add-value
-overflow-add-value c = record { fits = small_fits c.loop-d.value c.loop-d.d-index c.saturating-sub.result c.loop-d.invariant.1 (omega arith) (low c) }
+overflow-add-value c = record { fits = small_fits c.loop-d.value c.loop-d.d-index c.saturating_sub.result c.loop-d.invariant.1 (omega arith) (low c) }
 
 pub loop-d-preserved : goal.loop-d-preserved
 loop-d-preserved c =
@@ -22,7 +22,7 @@ loop-d-preserved c =
     let i = c.loop-d.d-index in
     let v = c.loop-d.value in
     let step : value_on v (drop i ds) ≡ value_on (v * 10 + (get_or ds i 0 - 48)) (drop (i + 1) ds) = at_drop_more (value_on v) ds i 0 c.loop-d-test.true in
-    (ap (λ d. value_on (v * 10 + d) (drop (i + 1) ds)) c.saturating-sub.ensures ∙ sym step ∙ c.loop-d.invariant.0, small_more v i c.saturating-sub.result c.loop-d.invariant.1 (low c))
+    (ap (λ d. value_on (v * 10 + d) (drop (i + 1) ds)) c.saturating_sub.ensures ∙ sym step ∙ c.loop-d.invariant.0, small_more v i c.saturating_sub.result c.loop-d.invariant.1 (low c))
 
 pub returns : goal.returns
 returns c =

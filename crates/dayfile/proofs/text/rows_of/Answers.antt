@@ -4,14 +4,14 @@ use Rattle.dayfile.proofs.Joins.{rejoined}
 use Rattle.dayfile.proofs.Pieces.{next_row, last_row}
 use Rattle.dayfile.proofs.text.rows_of.Goals as goal
 
-pub fields-of-requires : goal.fields-of-requires
-fields-of-requires c = omega (arith, c.loop-rest.invariant.inside, c.loop-rest.invariant.counted, c.first-line.ensures.within)
+pub fields_of-requires : goal.fields_of-requires
+fields_of-requires c = omega (arith, c.loop-rest.invariant.inside, c.loop-rest.invariant.counted, c.first_line.ensures.within)
 
 pub loop-rest-preserved : goal.loop-rest-preserved
 loop-rest-preserved c =
     let some : 0 < length c.loop-rest.rest.now = omega (arith, false-eqb _ 0 c.loop-rest-test.ensures) in
-    let cuts = c.first-line.ensures in
-    next_row c.loop-rest.invariant some _ _ c.first-line.result.0.now c.first-line.result.1.now c.in-ok-push.ensures.items c.in-ok-fields-of.ensures cuts.line cuts.rest (cuts.shorter some)
+    let cuts = c.first_line.ensures in
+    next_row c.loop-rest.invariant some _ _ c.first_line.result.0.now c.first_line.result.1.now c.in_ok-push.ensures.items c.in_ok-fields_of.ensures cuts.line cuts.rest (cuts.shorter some)
 
 pub returns : goal.returns
 returns c =

@@ -20,7 +20,7 @@ pub returns-in-None : goal.returns-in-None
 returns-in-None c =
     let read = ap (λ o. o.left) (same (goal.at.returns-in-None c).In-Some) in
     let done = cut_to_nothing c.args.number c.args.size _ c.in-Some.ensures.found (omega (arith, read, c.in-None.ensures)) in
-    record { answer = done.0; items = c.take-out.ensures.items ∙ done.1; len = omega (arith, c.take-out.ensures.len) }
+    record { answer = done.0; items = c.take_out.ensures.items ∙ done.1; len = omega (arith, c.take_out.ensures.len) }
 
 pub returns-in-Some-less : goal.returns-in-Some-less
 returns-in-Some-less c =

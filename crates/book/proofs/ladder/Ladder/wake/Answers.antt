@@ -19,8 +19,8 @@ returns-then-order c =
     let done = wake_waiting c.args.number c.args.moment held c.in-Some.ensures.found (sym (ap (λ o. o.waiting) is) ∙ c.if-order.true) in
     record {
       answer = done.0;
-      items = c.enter.ensures.items ∙ (λ i. enter ((c.woken.ensures ∙ ap (woken_at c.args.moment) is) i) (c.take-out.ensures.items i)) ∙ done.1;
-      len = omega (arith, c.enter.ensures.len, c.take-out.ensures.len);
+      items = c.enter.ensures.items ∙ (λ i. enter ((c.woken.ensures ∙ ap (woken_at c.args.moment) is) i) (c.take_out.ensures.items i)) ∙ done.1;
+      len = omega (arith, c.enter.ensures.len, c.take_out.ensures.len);
     }
 
 pub returns : goal.returns

@@ -7,6 +7,6 @@ use Rattle.book.proofs.sorted.SortedBook.lowest_asked.Goals as goal
 
 pub returns : goal.returns
 returns c =
-    c.lower-of.ensures
+    c.lower_of.ensures
     ∙ (λ i. lesser (c.lowest.ensures i) (c.lowest-2.ensures i))
     ∙ sym (lowest_poured (laddered _ _ _ c.args.self.now.laddered) (asked c.args.ask))
