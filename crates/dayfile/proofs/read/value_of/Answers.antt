@@ -5,16 +5,16 @@ use Rattle.dayfile.proofs.Digits.{small_more, small_fits}
 use Rattle.dayfile.proofs.read.value_of.Goals as goal
 use Rattle.dayfile.proofs.read.value_of.Goals.{After-saturating_sub}
 
-low : (c : After-saturating-sub) → c.saturating_sub.result ≤ 207
+low : (c : After-saturating_sub) → c.saturating_sub.result ≤ 207
 low c = omega (arith, c.saturating_sub.ensures)
 
-pub overflow-mul-value : goal.overflow-mul-value
-overflow-mul-value c =
+pub overflow_mul-value : goal.overflow_mul-value
+overflow_mul-value c =
     let fits : c.loop-d.value * 10 + 0 < 2 ^ 32 = small_fits c.loop-d.value c.loop-d.d-index 0 c.loop-d.invariant.1 (omega arith) (omega arith) in
     record { fits = omega arith }
 
-pub overflow-add-value : goal.overflow-add-value
-overflow-add-value c = record { fits = small_fits c.loop-d.value c.loop-d.d-index c.saturating_sub.result c.loop-d.invariant.1 (omega arith) (low c) }
+pub overflow_add-value : goal.overflow_add-value
+overflow_add-value c = record { fits = small_fits c.loop-d.value c.loop-d.d-index c.saturating_sub.result c.loop-d.invariant.1 (omega arith) (low c) }
 
 pub loop-d-preserved : goal.loop-d-preserved
 loop-d-preserved c =

@@ -7,23 +7,24 @@ use Rattle.book.proofs.Laddering.{other_way}
 use Rattle.book.proofs.Tested.{laddered, tested_as, sound_as}
 use Rattle.book.proofs.sorted.SortedBook.cut_order.Goals as goal
 
-pub invariant-of-self : goal.invariant-of-self
-invariant-of-self c =
-    let l = laddered _ _ _ c.args.self.now.laddered in (
-      omega (arith, c.args.self.now.buys_within, c.cut.ensures.len),
-      (c.args.self.now.sells_within, (tested_as _ _ _ _ _ c.cut.ensures.items refl (cut_keeps l c.args.number c.args.size), tt)),
-    )
-
-pub invariant-of-self-else-cut : goal.invariant-of-self-else-cut
-invariant-of-self-else-cut c =
+pub invariant_of-self : goal.invariant_of-self
+invariant_of-self c =
     let l = laddered _ _ _ c.args.self.now.laddered in
-    let both = other_way (cut_keeps (other_way (cut_keeps l c.args.number c.args.size)) c.args.number c.args.size) in (
-      omega (arith, c.args.self.now.buys_within, c.cut.ensures.len),
-      (
-        omega (arith, c.args.self.now.sells_within, c.cut-else-cut.ensures.len),
-        (tested_as _ _ _ _ _ c.cut.ensures.items c.cut-else-cut.ensures.items both, tt),
-      ),
-    )
+    record {
+      buys_within = omega (arith, c.args.self.now.buys_within, c.cut.ensures.len);
+      sells_within = c.args.self.now.sells_within;
+      laddered = tested_as _ _ _ _ _ c.cut.ensures.items refl (cut_keeps l c.args.number c.args.size);
+    }
+
+pub invariant_of-self-else-cut : goal.invariant_of-self-else-cut
+invariant_of-self-else-cut c =
+    let l = laddered _ _ _ c.args.self.now.laddered in
+    let both = other_way (cut_keeps (other_way (cut_keeps l c.args.number c.args.size)) c.args.number c.args.size) in
+    record {
+      buys_within = omega (arith, c.args.self.now.buys_within, c.cut.ensures.len);
+      sells_within = omega (arith, c.args.self.now.sells_within, c.cut-else-cut.ensures.len);
+      laddered = tested_as _ _ _ _ _ c.cut.ensures.items c.cut-else-cut.ensures.items both;
+    }
 
 pub returns-then-cut : goal.returns-then-cut
 returns-then-cut c =

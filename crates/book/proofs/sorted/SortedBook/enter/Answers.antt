@@ -14,19 +14,19 @@ pub enter-requires-in-Sell : goal.enter-requires-in-Sell
 enter-requires-in-Sell c =
     record { within = c.args.self.now.sells_within; room = omega (arith, c.requires.room, length_poured (laddered _ _ _ c.args.self.now.laddered)) }
 
-pub invariant-of-self : goal.invariant-of-self
-invariant-of-self c =
+pub invariant_of-self : goal.invariant_of-self
+invariant_of-self c =
     let l = laddered _ _ _ c.args.self.now.laddered in
     let new = enter_laddered l c.args.order c.requires.new c.in-Buy.is c.requires.sized (omega (arith, c.requires.room, length_poured l)) in
-    (c.enter.ensures.within, (c.args.self.now.sells_within, (tested_as _ _ _ _ _ c.enter.ensures.items refl new, tt)))
+    record { buys_within = c.enter.ensures.within; sells_within = c.args.self.now.sells_within; laddered = tested_as _ _ _ _ _ c.enter.ensures.items refl new }
 
-pub invariant-of-self-in-Sell : goal.invariant-of-self-in-Sell
-invariant-of-self-in-Sell c =
+pub invariant_of-self-in-Sell : goal.invariant_of-self-in-Sell
+invariant_of-self-in-Sell c =
     let l = laddered _ _ _ c.args.self.now.laddered in
     let m = other_way l in
     let unknown = ap (find c.args.order.number) (sym (poured_other_way l)) ∙ c.requires.new in
     let new = enter_laddered m c.args.order unknown c.in-Sell.is c.requires.sized (omega (arith, c.requires.room, length_poured l)) in
-    (c.args.self.now.buys_within, (c.enter-in-Sell.ensures.within, (tested_as _ _ _ _ _ refl c.enter-in-Sell.ensures.items (other_way new), tt)))
+    record { buys_within = c.args.self.now.buys_within; sells_within = c.enter-in-Sell.ensures.within; laddered = tested_as _ _ _ _ _ refl c.enter-in-Sell.ensures.items (other_way new) }
 
 pub returns-in-Buy : goal.returns-in-Buy
 returns-in-Buy c =

@@ -3,14 +3,10 @@ use Rattle.terms.specs.declared.side.Side.TheVariants.{Buy}
 use Rattle.book.proofs.Tested.{tested_as}
 use Rattle.book.proofs.sorted.SortedBook.of.Goals as goal
 
-pub invariant-of-result : goal.invariant-of-result
-invariant-of-result c = (
-  omega (arith, c.requires.buys.1),
-  (
-    omega (arith, c.requires.sells.1),
-    (
-      tested_as Buy [] [] _ _ c.requires.buys.0 c.requires.sells.0 (record { apart = refl; own_ranked = refl; others_ranked = refl; own_side = refl; others_side = refl; own_sized = refl; others_sized = refl; few = omega arith }),
-      tt,
-    ),
-  ),
-)
+pub invariant_of-result : goal.invariant_of-result
+invariant_of-result c =
+    record {
+      buys_within = omega (arith, c.requires.buys.1);
+      sells_within = omega (arith, c.requires.sells.1);
+      laddered = tested_as Buy [] [] _ _ c.requires.buys.0 c.requires.sells.0 (record { apart = refl; own_ranked = refl; others_ranked = refl; own_side = refl; others_side = refl; own_sized = refl; others_sized = refl; few = omega arith });
+    }

@@ -6,23 +6,24 @@ use Rattle.book.proofs.Laddering.{other_way}
 use Rattle.book.proofs.Tested.{laddered, tested_as, sound_as}
 use Rattle.book.proofs.sorted.SortedBook.wake_order.Goals as goal
 
-pub invariant-of-self : goal.invariant-of-self
-invariant-of-self c =
-    let l = laddered _ _ _ c.args.self.now.laddered in (
-      omega (arith, c.args.self.now.buys_within, c.wake.ensures.len),
-      (c.args.self.now.sells_within, (tested_as _ _ _ _ _ c.wake.ensures.items refl (wake_keeps l c.args.number c.args.moment), tt)),
-    )
-
-pub invariant-of-self-else-wake : goal.invariant-of-self-else-wake
-invariant-of-self-else-wake c =
+pub invariant_of-self : goal.invariant_of-self
+invariant_of-self c =
     let l = laddered _ _ _ c.args.self.now.laddered in
-    let both = other_way (wake_keeps (other_way (wake_keeps l c.args.number c.args.moment)) c.args.number c.args.moment) in (
-      omega (arith, c.args.self.now.buys_within, c.wake.ensures.len),
-      (
-        omega (arith, c.args.self.now.sells_within, c.wake-else-wake.ensures.len),
-        (tested_as _ _ _ _ _ c.wake.ensures.items c.wake-else-wake.ensures.items both, tt),
-      ),
-    )
+    record {
+      buys_within = omega (arith, c.args.self.now.buys_within, c.wake.ensures.len);
+      sells_within = c.args.self.now.sells_within;
+      laddered = tested_as _ _ _ _ _ c.wake.ensures.items refl (wake_keeps l c.args.number c.args.moment);
+    }
+
+pub invariant_of-self-else-wake : goal.invariant_of-self-else-wake
+invariant_of-self-else-wake c =
+    let l = laddered _ _ _ c.args.self.now.laddered in
+    let both = other_way (wake_keeps (other_way (wake_keeps l c.args.number c.args.moment)) c.args.number c.args.moment) in
+    record {
+      buys_within = omega (arith, c.args.self.now.buys_within, c.wake.ensures.len);
+      sells_within = omega (arith, c.args.self.now.sells_within, c.wake-else-wake.ensures.len);
+      laddered = tested_as _ _ _ _ _ c.wake.ensures.items c.wake-else-wake.ensures.items both;
+    }
 
 pub returns-then-wake : goal.returns-then-wake
 returns-then-wake c =
