@@ -12,7 +12,7 @@ returns-in-Err c =
 pub loop-row-preserved : goal.loop-row-preserved
 loop-row-preserved c =
     let same = ap (λ l. call_fields c.loop-row.line (map place_of l)) (sym c.as_slice.ensures.value) in
-    next_call c.loop-row.invariant c.row-item.result c.loop-row-test.true c.row-item.is c.push.new.self.items c.in-Ok.call (same ∙ sym c.call_of.ensures ∙ c.in-Ok.is) c.in_ok-push.ensures.items
+    next_call c.loop-row.invariant c.row-item.result c.loop-row-test.true c.row-item.is c.push.new.self.items c.in-Ok.call (same ∙ sym c.call_of.ensures ∙ c.in-Ok.is) c.in_ok-push-in-Ok.ensures.items
 
 pub returns : goal.returns
 returns c = no_fault c.loop-row.invariant c.loop-row-test.false

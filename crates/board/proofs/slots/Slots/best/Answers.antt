@@ -2,8 +2,8 @@ use Rattle.std.proofs.Common.{rules}
 use Rattle.board.proofs.Bests.{at_first, none_first, found_within, best_law}
 use Rattle.board.proofs.slots.Slots.best.Goals as goal
 
-pub offset-bounds-self-place : goal.offset-bounds-self-place
-offset-bounds-self-place c =
+pub offset_bounds-self-place : goal.offset_bounds-self-place
+offset_bounds-self-place c =
     let h = found_within c.args.side c.args.self.now.quotes c.in-Some.place c.args.self.now.sixteen c.in-Some.ensures.law in
     search rules
 
