@@ -24,6 +24,10 @@ INSTEAD = {}
 BESIDE = {
     "HoursLaw", "SlotLaws", "day_text", "hours_of", "is_maker", "is_owner", "is_price", "is_size", "known_hours_hold", "leap_day",
     "lowest_waking", "new_year", "ranks_before", "row_text", "session_phase", "starts_on", "starts_session", "sunday_from",
+    # and in the files that lie in unfinished/
+    "answers_part", "asked_refusal", "call_refusal", "cut_mate", "cuts_loss", "day_before_says", "is_loss_cut", "is_pre_open",
+    "lapse_all", "lapses_after", "limit_leg", "needs_price", "needs_trigger", "next_pair", "order_refusal", "pair_on", "price_of",
+    "put_level", "quote_refusal", "tapes_part", "trigger_leg", "turn_refusal", "wake_all", "wake_order", "withdraw_refusal",
 }
 
 

@@ -1,13 +1,13 @@
 -- What a change of one side makes of the book, as the book's own definitions have it. Assumes nothing.
-use Rattle.std.proofs.Common.{◌≡◌, ℕ, ◌+◌, ◌<◌, ◌≤◌, Bool, true, false, cond, not, ◌&&◌, ltb, ◌⊎◌, List, [], ◌∷◌, ◌++◌, length, Some, None, Option, sym, refl, ap, ◌∙◌, subst, inl, inr, ⊎_elim, arith}
+use Rattle.std.proofs.Common.{◌≡◌, ℕ, true, false, ◌⊎◌, List, [], ◌∷◌, ◌++◌, Some, None, Option, sym, refl, ap, ◌∙◌, subst, inl, inr, ⊎_elim, arith}
 use Rattle.std.proofs.lemmas.Bool.{cond-true, cond-false, cases_Bool, cases_eq, both_ways}
 use Rattle.terms.specs.declared.side.Side.{Side}
 use Rattle.book.specs.declared.order.Order.{Order}
-use Rattle.book.specs.Ladders.{distinct, enter, without, Laddered, poured}
-use Rattle.book.specs.Orders.{find, place, can_add, added, has_left, can_cut, cut, cut_from, waits, can_wake, woken}
+use Rattle.book.specs.Ladders.{distinct, Laddered, poured}
+use Rattle.book.specs.Orders.{find, has_left, can_cut, cut, cut_from, waits, can_wake, woken}
 use Rattle.book.specs.Shelves.{wake_found, wake_ranked}
 use Rattle.book.proofs.Laddering.{other_way, poured_other_way, find_own, find_neither, cut_poured, cut_laddered, wake_poured, wake_laddered}
-use Rattle.book.proofs.Placed.{distinct_parts, find_past, find_skip, find_append_parts}
+use Rattle.book.proofs.Placed.{distinct_parts, find_skip, find_append_parts}
 
 -- a number of one list is in no other
 apart_found : (xs ys : List Order) (n : ℕ) (o : Order) → distinct (xs ++ ys) ≡ true → find n xs ≡ Some o → find n ys ≡ None

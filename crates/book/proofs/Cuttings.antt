@@ -1,11 +1,11 @@
 -- A cut of an order that is found, and the order at the end. Assumes nothing.
-use Rattle.std.proofs.Common.{◌≡◌, ℕ, zero, suc, ◌+◌, ◌-◌, ◌<◌, ◌≤◌, Bool, true, false, cond, ltb, leb, List, [], ◌∷◌, ◌++◌, length, get_or, take, drop, set, Some, None, Option, sym, refl, ap, ◌∙◌, add-one, arith}
-use Rattle.std.proofs.lemmas.List.{set_split, get_or-take, at_drop_more, at_drop_all}
+use Rattle.std.proofs.Common.{◌≡◌, ℕ, zero, suc, ◌+◌, ◌-◌, ◌<◌, ◌≤◌, Bool, true, false, cond, leb, List, [], ◌∷◌, ◌++◌, length, take, drop, set, Some, None, Option, sym, refl, ap, ◌∙◌, arith}
+use Rattle.std.proofs.lemmas.List.{set_split, at_drop_more, at_drop_all}
 use Rattle.std.proofs.lemmas.Bool.{le-leb, lt-leb, le-ltb, lt-ltb, cond-true, cond-false}
 use Rattle.std.specs.List.{remove}
 use Rattle.book.specs.declared.order.Order.{Order}
 use Rattle.book.specs.Ladders.{enter, lesser, lowest_in, end_in_force}
-use Rattle.book.specs.Orders.{find, with_left, less, cut_from, has_left, can_cut, cut, woken_at, waits, can_wake}
+use Rattle.book.specs.Orders.{find, with_left, less, has_left, can_cut, cut, woken_at, waits, can_wake}
 use Rattle.book.specs.Shelves.{order_at, no_order, Found, wake_found, wake_ranked}
 use Rattle.book.proofs.Placed.{lesser_assoc}
 

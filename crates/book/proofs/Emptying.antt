@@ -1,8 +1,8 @@
 -- The lowest order, and the book without it. Assumes nothing.
-use Rattle.std.proofs.Common.{◌≡◌, ℕ, ◌+◌, ◌<◌, true, false, cond, List, [], ◌∷◌, ◌++◌, length, Some, None, sym, refl, ap, ◌∙◌, arith}
+use Rattle.std.proofs.Common.{◌≡◌, ℕ, ◌<◌, true, List, [], ◌∷◌, ◌++◌, length, Some, None, sym, refl, ap, ◌∙◌, arith}
 use Rattle.std.proofs.lemmas.Bool.{eq-eqb, le-leb, le-ltb, cond-true, cond-false}
 use Rattle.book.specs.declared.order.Order.{Order}
-use Rattle.book.specs.Orders.{find, lowest, has_left, can_cut, cut, cut_from, less}
+use Rattle.book.specs.Orders.{find, lowest, has_left, can_cut, cut}
 use Rattle.book.proofs.Placed.{some_none}
 
 pub none_lowest : (orders : List Order) → None ≡ lowest orders → orders ≡ []

@@ -1,6 +1,6 @@
 -- What the first in force of a side tells of the others. Assumes nothing.
-use Rattle.std.proofs.Common.{◌≡◌, ℕ, suc, ◌<◌, ◌≤◌, Bool, true, false, cond, not, ◌&&◌, leb, ◌⊎◌, List, [], ◌∷◌, Some, None, Option, sym, refl, ap, ◌∙◌, subst, inl, inr, ⊎_elim, arith}
-use Rattle.std.proofs.lemmas.Bool.{eq-eqb, cond-true, cond-false, cases_Bool, cases_eq, and_parts, leb-true, not-false}
+use Rattle.std.proofs.Common.{◌≡◌, ℕ, suc, ◌<◌, ◌≤◌, true, false, not, ◌&&◌, leb, ◌⊎◌, List, [], ◌∷◌, Some, None, Option, sym, refl, ap, ◌∙◌, subst, inl, inr, ⊎_elim, arith}
+use Rattle.std.proofs.lemmas.Bool.{eq-eqb, cond-true, cond-false, cases_Bool, cases_eq, and_parts, leb-true}
 use Rattle.terms.specs.declared.side.Side.{Side}
 use Rattle.book.specs.declared.order.Order.{Order}
 use Rattle.book.specs.Orders.{ascends, find, same_side, in_force, firster, first_of, Leads, FirstFacts, First}

@@ -1,7 +1,7 @@
 -- One item more or less among the first of a list, by a turn of a part of it. Assumes nothing.
-use Rattle.std.proofs.Common.{◌≡◌, ℕ, zero, suc, ◌+◌, ◌-◌, ◌<◌, ◌≤◌, List, [], ◌∷◌, ◌++◌, length, take, drop, set, sym, refl, ap, ◌∙◌, append_assoc, add-one, arith}
+use Rattle.std.proofs.Common.{◌≡◌, ℕ, zero, suc, ◌+◌, ◌-◌, ◌<◌, ◌≤◌, List, [], ◌∷◌, ◌++◌, length, take, drop, set, sym, refl, ap, ◌∙◌, append_assoc, arith}
 use borrow.Rule.Slice.PartMut.{put_mid, post_of}
-use Rattle.std.proofs.lemmas.List.{length-take, length-drop, length-append, length-set, take_at, drop_at, take-take, take-set-le, take_more_set, drop-append-le, length-take-le}
+use Rattle.std.proofs.lemmas.List.{length-drop, length-append, length-set, take_at, drop_at, take-take, take-set-le, take_more_set, drop-append-le, length-take-le}
 use Rattle.std.proofs.lemmas.Slice.{between_is, take-put_mid}
 use Rattle.std.specs.List.{insert, remove}
 

@@ -1,11 +1,10 @@
 -- The test of two sides and what it says. Assumes nothing.
-use Rattle.std.proofs.Common.{◌≡◌, ℕ, ◌+◌, Bool, true, ◌&&◌, List, ◌++◌, length, sym, ◌∙◌, subst}
+use Rattle.std.proofs.Common.{◌≡◌, true, List, sym, ◌∙◌, subst}
 use Rattle.std.proofs.lemmas.Bool.{and_parts, and_from, leb-true, le-leb}
-use Rattle.terms.specs.Side.{other_side}
 use Rattle.terms.specs.declared.side.Side.{Side}
 use Rattle.book.specs.declared.order.Order.{Order}
-use Rattle.book.specs.Ladders.{Laddered, well_laddered, distinct, ranked, all_of_side, poured}
-use Rattle.book.specs.Orders.{Sound, all_sized}
+use Rattle.book.specs.Ladders.{Laddered, well_laddered, poured}
+use Rattle.book.specs.Orders.{Sound}
 use Rattle.book.proofs.Laddering.{sound}
 
 module _ (side : Side) (own others : List Order) where

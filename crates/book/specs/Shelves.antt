@@ -1,5 +1,5 @@
 -- The orders that a ladder holds, and where a number stands among orders.
-use Rattle.std.specs.Prelude.{◌≡◌, ℕ, suc, ◌<◌, Bool, true, false, cond, List, [], ◌∷◌, ◌++◌, length, take, drop, Some, None, Option, slice_index_or}
+use Rattle.std.specs.Prelude.{◌≡◌, ℕ, suc, ◌<◌, Bool, true, false, cond, List, ◌++◌, length, take, drop, Some, None, Option, slice_index_or}
 use Rattle.std.specs.List.{remove}
 use Rattle.terms.specs.declared.side.Side.TheVariants.{Buy}
 use Rattle.book.specs.Ladders.{enter, without}

@@ -3,7 +3,7 @@ ghost use Rattle.std.specs.Prelude.{◌≡◌, ◌++◌, length, IfOk, string_by
 ghost use Rattle.machine.specs.Machine.{start, step};
 ghost use Rattle.dayfile.specs.Print.{tape_names};
 ghost use Rattle.market.specs.Plays.{state_of};
-ghost use Rattle.day.specs.Day.{line_rows, outcome_rows, play, end_rows, day_text as day-text-of};
+ghost use Rattle.day.specs.Day.{line_rows, outcome_rows, play, end_rows, day_text as day_text_of};
 
 use calendar::Calendar;
 use dayfile::print::{fault_text, line_text, refusal_text};
@@ -84,7 +84,7 @@ pub fn day_text<C: Calendar + Drop>(
     calendar: C,
     file: &[u8],
 ) -> Result<String, AllocError>
-    ensures { IfOk result (λ t. string_bytes t ≡ day-text-of (C.Calendar.hours calendar) file.now) }
+    ensures { IfOk result (λ t. string_bytes t ≡ day_text_of (C.Calendar.hours calendar) file.now) }
 {
     let reading = read(heap, file)?;
     let mut market = Market::new(calendar);

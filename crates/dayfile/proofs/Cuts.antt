@@ -1,8 +1,8 @@
 -- One step of a scan over bytes, by what is left of them. Assumes nothing.
-use Rattle.std.proofs.Common.{◌≡◌, ℕ, ◌+◌, ◌-◌, ◌<◌, ◌≤◌, Bool, true, false, cond, ◌&&◌, eqb, List, [], ◌∷◌, ◌++◌, length, get_or, take, drop, Some, None, Option, sym, refl, ap, ◌∙◌, append_assoc, append-nil}
-use Rattle.std.proofs.lemmas.List.{drop_more, take_more, at_drop_more, at_drop_all, take_all, drop_all}
+use Rattle.std.proofs.Common.{◌≡◌, ℕ, ◌+◌, ◌<◌, ◌≤◌, true, false, eqb, List, [], ◌∷◌, ◌++◌, length, get_or, take, drop, Some, None, sym, ap, ◌∙◌, append_assoc, append-nil}
+use Rattle.std.proofs.lemmas.List.{take_more, at_drop_more, at_drop_all, take_all}
 use Rattle.std.proofs.lemmas.Bool.{eq-eqb, ne_eqb, cond-true, cond-false}
-use Rattle.dayfile.specs.Text.{until, after, is_digit, all_digits}
+use Rattle.dayfile.specs.Text.{until, after}
 
 module _ (mark : ℕ) (bs : List ℕ) (i : ℕ) where
   -- what a scan keeps that has passed the first i bytes and met no mark

@@ -1,8 +1,8 @@
 -- The rows of a file give the file back. Assumes nothing.
-use Rattle.std.proofs.Common.{◌≡◌, ℕ, ◌+◌, Bool, true, false, cond, eqb, ◌⊎◌, List, [], ◌∷◌, ◌++◌, map, length, sym, refl, ap, ◌∙◌, subst, inl, inr, ⊎_elim, append_assoc}
+use Rattle.std.proofs.Common.{◌≡◌, ℕ, ◌+◌, eqb, ◌⊎◌, List, [], ◌∷◌, ◌++◌, map, length, sym, refl, ap, ◌∙◌, inl, inr, ⊎_elim, append_assoc}
 use Rattle.std.proofs.lemmas.Bool.{eqb-true, cases_Bool, cond-true, cond-false}
-use Rattle.dayfile.specs.Text.{onto_first, split, join, unless_empty, without_empty_end, lines, placed, fields, rows_from, rows, Place, row_text, text_of, Rejoins, until, after}
-use Rattle.dayfile.proofs.Pieces.{more, split_cut}
+use Rattle.dayfile.specs.Text.{onto_first, split, join, without_empty_end, lines, placed, rows_from, rows, row_text, text_of, Rejoins}
+use Rattle.dayfile.proofs.Pieces.{split_cut}
 
 join_empty : (mark : ℕ) (bs : List ℕ) → join mark ([] ∷ split mark bs) ≡ mark ∷ join mark (split mark bs)
 join_empty mark bs = rw (split_cut mark bs)

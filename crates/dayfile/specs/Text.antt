@@ -1,5 +1,5 @@
 -- A day file as lines of fields, each with its place.
-use Rattle.std.specs.Prelude.{◌≡◌, ℕ, suc, ◌+◌, ◌-◌, ◌*◌, Bool, true, false, cond, not, ◌&&◌, ◌⊎◌, List, [], ◌∷◌, ◌++◌, map, length, Some, None, vec_items, Option, ◌==◌, nat_le}
+use Rattle.std.specs.Prelude.{◌≡◌, ℕ, ◌+◌, Bool, true, cond, ◌&&◌, ◌⊎◌, List, [], ◌∷◌, ◌++◌, map, length, Some, None, vec_items, Option, ◌==◌, nat_le}
 use Rattle.std.specs.Option.{unwrap_or}
 use Rattle.dayfile.specs.declared.field.Field.{Field}
 use Rattle.dayfile.specs.declared.field.Row.{Row}

@@ -1,9 +1,9 @@
 -- The law of a turn holds of the machine. Assumes nothing.
-use Rattle.std.proofs.Common.{◌≡◌, ℕ, ◌+◌, ◌<◌, ◌≤◌, Bool, true, false, cond, ltb, leb, ◌⊎◌, [], ◌∷◌, Some, None, Option, sym, refl, ap, ◌∙◌, subst, inl, inr, ⊎_elim, arith}
+use Rattle.std.proofs.Common.{◌≡◌, ℕ, Some, None, refl, ⊎_elim}
 use Rattle.std.proofs.lemmas.Bool.{le-ltb, lt-ltb, le-leb, lt-leb, cases_lt}
 use Rattle.calendar.specs.declared.phase.Phase.{Phase}
-use Rattle.machine.specs.Laws.{MayTurn, HasTurned, HasRefused, TurnLaw}
-use Rattle.machine.specs.Machine.{State, Outcome, test, turn_refusal, unless, step}
+use Rattle.machine.specs.Laws.{MayTurn, TurnLaw}
+use Rattle.machine.specs.Machine.{State, turn_refusal, step}
 use Rattle.machine.specs.declared.words.Call.TheVariants.{Turn}
 use Rattle.machine.specs.declared.words.Refusal.{Refusal}
 use Rattle.machine.specs.declared.words.Refusal.TheVariants.{TapeTooShort, MomentsSpent, MinuteTooLate, MinuteBeforeHeld}

@@ -1,5 +1,5 @@
 -- The first by rank of a list of places, each of which holds an entry or none.
-use Rattle.std.specs.Prelude.{◌≡◌, ℕ, ◌+◌, ◌<◌, Bool, false, cond, List, [], ◌∷◌, length, get_or, Some, None, Option, slice_index_or}
+use Rattle.std.specs.Prelude.{◌≡◌, ℕ, ◌+◌, ◌<◌, Bool, false, cond, List, [], ◌∷◌, length, Some, None, Option, slice_index_or}
 use Rattle.std.specs.Option.{option_map}
 
 -- what stands in a place that may be empty
@@ -27,7 +27,7 @@ first_place before entries = option_map (λ p. p.0) (leader before entries)
 -- an entry of the list that no other precedes
 pub record Leads {E : Type 0} (before : E → E → Bool) (entries : List (Option E)) (place : ℕ) (entry : E) : Type 0 where
   pub within : place < length entries
-  pub stands : get_or entries place None ≡ Some entry
+  pub stands : slice_index_or entries place None ≡ Some entry
   pub unpreceded : (i : ℕ) (e : E) → slice_index_or entries i None ≡ Some e → before e entry ≡ false
 
 -- what a search for the first by rank answers: nothing exactly if no place holds an entry, else the place of one that leads

@@ -2,7 +2,6 @@ use Rattle.std.proofs.Common.{◌≡◌, ◌+◌, ◌&&◌, get_or, drop, sym, �
 use Rattle.std.proofs.lemmas.List.{at_drop_more, at_drop_all}
 use Rattle.std.proofs.lemmas.Bool.Decides.{nat_tests}
 use Rattle.dayfile.specs.Text.{is_digit, all_digits}
-use Rattle.dayfile.proofs.field.only_digits.Given as given
 use Rattle.dayfile.proofs.field.only_digits.Goals as goal
 
 pub returns-then-b-lt48 : goal.returns-then-b-lt48

@@ -1,4 +1,4 @@
-use Rattle.std.proofs.Common.{sym, ◌∙◌, arith}
+use Rattle.std.proofs.Common.{sym, ◌∙◌}
 use Rattle.dayfile.proofs.Calls.{no_fields, ten_more, not_ten_more}
 use Rattle.dayfile.proofs.read.call_of.Goals as goal
 

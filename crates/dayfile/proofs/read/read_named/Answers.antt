@@ -1,7 +1,6 @@
-use Rattle.std.proofs.Common.{◌≡◌, Some, None, ap, ◌∙◌, arith}
+use Rattle.std.proofs.Common.{Some, None, ap, ◌∙◌, arith}
 use Rattle.std.proofs.lemmas.Result.{IfOk-weaker}
 use Rattle.dayfile.specs.declared.fault.Fault.TheVariants.{WrongNames}
-use Rattle.dayfile.specs.Reading.{Read}
 use Rattle.dayfile.proofs.Files.{reading_wrong, rows_few, reading_rest, reading_none}
 use Rattle.dayfile.proofs.read.read_named.Goals as goal
 

@@ -1,6 +1,5 @@
 use Rattle.std.proofs.Common.{◌≡◌, get_or, sym, ap, ◌∙◌, arith}
 use Rattle.std.proofs.lemmas.List.{get_or-take}
-use Rattle.std.specs.List.{remove}
 use Rattle.book.specs.Ladders.{enter}
 use Rattle.book.specs.Orders.{woken_at}
 use Rattle.book.specs.Shelves.{items, order_at, no_order}

@@ -39,10 +39,10 @@ returns-then-cut c =
 pub returns-else-cut : goal.returns-else-cut
 returns-else-cut c =
     let l = laddered _ _ _ c.args.self.now.laddered in
-    let not-buy = sym c.if-cut.ensures.answer in
+    let not_buy = sym c.if-cut.ensures.answer in
     let both = other_way (cut_keeps (other_way (cut_keeps l c.args.number c.args.size)) c.args.number c.args.size) in
     record {
-      answer = c.cut-else-cut.ensures.answer ∙ cut_not_own l c.args.number c.args.size not-buy;
-      orders = (λ i. poured ((c.cut.ensures.items ∙ cond-false _ _ _ not-buy) i) (c.cut-else-cut.ensures.items i)) ∙ cut_others l c.args.number c.args.size not-buy;
+      answer = c.cut-else-cut.ensures.answer ∙ cut_not_own l c.args.number c.args.size not_buy;
+      orders = (λ i. poured ((c.cut.ensures.items ∙ cond-false _ _ _ not_buy) i) (c.cut-else-cut.ensures.items i)) ∙ cut_others l c.args.number c.args.size not_buy;
       sound = sound_as _ _ _ _ _ c.cut.ensures.items c.cut-else-cut.ensures.items both;
     }

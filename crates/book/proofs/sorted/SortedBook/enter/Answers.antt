@@ -1,4 +1,4 @@
-use Rattle.std.proofs.Common.{◌+◌, ◌<◌, length, sym, refl, ap, ◌∙◌, arith}
+use Rattle.std.proofs.Common.{sym, refl, ap, ◌∙◌, arith}
 use Rattle.book.specs.Ladders.{poured}
 use Rattle.book.specs.Orders.{find, place}
 use Rattle.book.specs.Shelves.{items}

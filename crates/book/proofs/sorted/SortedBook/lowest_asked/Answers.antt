@@ -1,4 +1,4 @@
-use Rattle.std.proofs.Common.{sym, ap, ◌∙◌}
+use Rattle.std.proofs.Common.{sym, ◌∙◌}
 use Rattle.book.specs.Ladders.{lesser}
 use Rattle.book.specs.Shelves.{asked}
 use Rattle.book.proofs.Laddering.{lowest_poured}

@@ -38,10 +38,10 @@ returns-then-wake c =
 pub returns-else-wake : goal.returns-else-wake
 returns-else-wake c =
     let l = laddered _ _ _ c.args.self.now.laddered in
-    let not-buy = sym c.if-wake.ensures.answer in
+    let not_buy = sym c.if-wake.ensures.answer in
     let both = other_way (wake_keeps (other_way (wake_keeps l c.args.number c.args.moment)) c.args.number c.args.moment) in
     record {
-      answer = c.wake-else-wake.ensures.answer ∙ wake_not_own l c.args.number not-buy;
-      orders = (λ i. poured ((c.wake.ensures.items ∙ wake_unchanged l c.args.number c.args.moment not-buy) i) (c.wake-else-wake.ensures.items i)) ∙ wake_others l c.args.number c.args.moment not-buy;
+      answer = c.wake-else-wake.ensures.answer ∙ wake_not_own l c.args.number not_buy;
+      orders = (λ i. poured ((c.wake.ensures.items ∙ wake_unchanged l c.args.number c.args.moment not_buy) i) (c.wake-else-wake.ensures.items i)) ∙ wake_others l c.args.number c.args.moment not_buy;
       sound = sound_as _ _ _ _ _ c.wake.ensures.items c.wake-else-wake.ensures.items both;
     }
