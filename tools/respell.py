@@ -15,6 +15,7 @@ import sys
 
 NAME = r"[A-Za-z][\w'-]*[\w']"
 SIGNATURE = re.compile(r"^\s*((?:(?:abbrev|unfoldable|opaque|pub|record|data)\s+)*)([^\s(){}.,;:λ]+)\s*((?:[({][^:]*:[^)}]*[)}]\s*)*):\s")
+RECORD = re.compile(r"^\s*(?:pub\s+)?(?:record|data)\s+([^\s(){}.,;:λ]+)")
 TOKEN = re.compile(r"(?<![\w'·-])[A-Za-z][\w']*(?:-[\w']+)+(?![\w'·-])")
 PLAIN = re.compile(r"(?<![\w'·-])[A-Za-z][\w']*(?![\w'·-])")
 # where two names would fall together, or fall on a word of std: the name that it gets instead
@@ -48,8 +49,10 @@ def declared(root):
             for line in f:
                 line = line.split("--")[0].rstrip()
                 m = SIGNATURE.match(line + " ")
-                if m and "-" in m.group(2) and "↦" not in line and not re.search(r":\s*goal\.", line) and re.fullmatch(NAME, m.group(2)):
-                    found[m.group(2)].add(path)
+                r = RECORD.match(line)
+                name = r.group(1) if r else m.group(2) if m else ""
+                if "-" in name and "↦" not in line and not re.search(r":\s*goal\.", line) and re.fullmatch(NAME, name):
+                    found[name].add(path)
     return found
 
 

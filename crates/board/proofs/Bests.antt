@@ -8,7 +8,7 @@ use Rattle.terms.specs.declared.side.Side.{Side}
 use Rattle.board.specs.declared.quote.Quote.{Quote}
 use Rattle.board.specs.declared.quote.SideQuote.{SideQuote}
 use Rattle.board.specs.Ranks.{entry_before, entry_of}
-use Rattle.board.specs.Board.{slot_of, entries, first_quote, OfOwnMaker, Leading, Best-facts, Best}
+use Rattle.board.specs.Board.{slot_of, entries, first_quote, OfOwnMaker, Leading, BestFacts, Best}
 use Rattle.board.specs.Orders.{before_never, before_onward, before_decided, before_same}
 use Rattle.board.proofs.Places.{slot_place, slot_next}
 
@@ -84,7 +84,7 @@ module _ (side : Side) (slots : List (Option Quote)) where
           others = λ maker p h ne. sym (before_same side q p) ∙ leads_others entry_before (λ e. e.quote.maker) decided (entries side slots) place (entry_of side q) l (maker - 1) (entry_of side p) (standing maker p h) (λ e. ne (sym e));
         }
 
-    lawful : (answer : Option (ℕ × SideQuote)) → answer ≡ leader entry_before (entries side slots) → Finds entry_before (entries side slots) (option_map (λ p. p.0) answer) → Best-facts side slots (option_map (λ p. p.1.quote) answer)
+    lawful : (answer : Option (ℕ × SideQuote)) → answer ≡ leader entry_before (entries side slots) → Finds entry_before (entries side slots) (option_map (λ p. p.0) answer) → BestFacts side slots (option_map (λ p. p.1.quote) answer)
     lawful None is f =
         record {
           nothing = λ h. none_slot (f.nothing refl);

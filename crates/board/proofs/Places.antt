@@ -5,7 +5,7 @@ use Rattle.std.proofs.lemmas.Bool.{cases_eq, cases_Bool, cond-true, cond-false, 
 use Rattle.std.proofs.lemmas.Bool.Decides.{nat_tests}
 use Rattle.rank.proofs.Laws.{none_some}
 use Rattle.board.specs.declared.quote.Quote.{Quote}
-use Rattle.board.specs.Board.{is_maker, slot_of, set_slot, less, no_quotes, OfOwnMaker, Own-slots}
+use Rattle.board.specs.Board.{is_maker, slot_of, set_slot, less, no_quotes, OfOwnMaker, OwnSlots}
 
 pub maker_place : (maker : ℕ) → is_maker maker ≡ true → (maker ≡ maker - 1 + 1) × (maker - 1 < 16)
 maker_place maker h = (grind (arith, nat_tests), grind (arith, nat_tests))
@@ -108,7 +108,7 @@ slot_set_other m maker o slots ne =
     ]
 
 -- a write of a maker's own quote keeps the slots own
-pub own_set : (slots : List (Option Quote)) → Own-slots slots → (maker : ℕ) (o : Option Quote) → ((q : Quote) → o ≡ Some q → q.maker ≡ maker) → ((q : Quote) → o ≡ Some q → 0 < q.size) → Own-slots (set_slot maker o slots)
+pub own_set : (slots : List (Option Quote)) → OwnSlots slots → (maker : ℕ) (o : Option Quote) → ((q : Quote) → o ≡ Some q → q.maker ≡ maker) → ((q : Quote) → o ≡ Some q → 0 < q.size) → OwnSlots (set_slot maker o slots)
 own_set slots old maker o own some =
     elim (cases_Bool (is_maker maker)) [
       | inl h ↦
@@ -127,7 +127,7 @@ none_in zero i = refl
 none_in (suc n) zero = refl
 none_in (suc n) (suc i) = none_in n i
 
-pub own_none : Own-slots no_quotes
+pub own_none : OwnSlots no_quotes
 own_none =
     record {
       sixteen = refl;

@@ -7,7 +7,7 @@ use Rattle.terms.specs.Side.{other_side}
 use Rattle.terms.specs.declared.side.Side.{Side}
 use Rattle.terms.specs.declared.side.Side.TheVariants.{Buy, Sell}
 use Rattle.board.specs.declared.quote.Quote.{Quote}
-use Rattle.board.specs.Board.{Sides, Own-slots, is_maker, slots_on, slot_of, set_slot, with_slots, less, take_slot, lifting, clear}
+use Rattle.board.specs.Board.{Sides, OwnSlots, is_maker, slots_on, slot_of, set_slot, with_slots, less, take_slot, lifting, clear}
 use Rattle.board.specs.Laws.{SlotLaws}
 use Rattle.board.proofs.Places.{slot_place, slot_outside, slot_set_same, slot_set_other, set_slot_same, length_slots, none_slot}
 
@@ -28,21 +28,21 @@ on_lift Buy m s = refl
 on_lift Sell m s = refl
 
 -- a slot that is written holds what was written, if there is such a slot or that is nothing
-emptied : (m : ℕ) (slots : List (Option Quote)) → Own-slots slots → slot_of m (set_slot m None slots) ≡ None
+emptied : (m : ℕ) (slots : List (Option Quote)) → OwnSlots slots → slot_of m (set_slot m None slots) ≡ None
 emptied m slots own =
     elim (cases_Bool (is_maker m)) [
       | inl h ↦ slot_set_same m None slots own.sixteen h
       | inr n ↦ slot_outside (set_slot m None slots) (length_slots m None slots ∙ own.sixteen) m n
     ]
 
-standing_maker : (m : ℕ) (slots : List (Option Quote)) (q : Quote) → Own-slots slots → slot_of m slots ≡ Some q → is_maker m ≡ true
+standing_maker : (m : ℕ) (slots : List (Option Quote)) (q : Quote) → OwnSlots slots → slot_of m slots ≡ Some q → is_maker m ≡ true
 standing_maker m slots q own h =
     elim (cases_Bool (is_maker m)) [
       | inl t ↦ t
       | inr n ↦ absurd (none_some q (sym (slot_outside slots own.sixteen m n) ∙ h))
     ]
 
-taken : (m size : ℕ) (slots : List (Option Quote)) (q : Quote) → Own-slots slots → slot_of m slots ≡ Some q → slot_of m (take_slot m size slots) ≡ less size q
+taken : (m size : ℕ) (slots : List (Option Quote)) (q : Quote) → OwnSlots slots → slot_of m slots ≡ Some q → slot_of m (take_slot m size slots) ≡ less size q
 taken m size slots q own h = slot_set_same m _ slots own.sixteen (standing_maker m slots q own h) ∙ ap (through (less size)) h
 
 less_nothing : (q : Quote) → 0 < q.size → less 0 q ≡ Some q
@@ -52,7 +52,7 @@ nothing_less : (o : Option Quote) → ((q : Quote) → o ≡ Some q → 0 < q.si
 nothing_less None h = refl
 nothing_less (Some q) h = less_nothing q (h q refl)
 
-nothing_taken : (m : ℕ) (slots : List (Option Quote)) → Own-slots slots → take_slot m 0 slots ≡ slots
+nothing_taken : (m : ℕ) (slots : List (Option Quote)) → OwnSlots slots → take_slot m 0 slots ≡ slots
 nothing_taken m slots own = ap (λ o. set_slot m o slots) (nothing_less (slot_of m slots) (λ q is. own.some (m - 1) q (slot_place slots m q is).1)) ∙ set_slot_same m slots
 
 clear_slot : (side : Side) (m : ℕ) → slot_of m (slots_on side clear) ≡ None

@@ -6,7 +6,7 @@ use Rattle.terms.specs.declared.side.Side.{Side}
 use Rattle.terms.specs.declared.side.Side.TheVariants.{Buy, Sell}
 use Rattle.board.specs.declared.quote.Quote.{Quote}
 use Rattle.board.specs.declared.sole.Sole.{Sole}
-use Rattle.board.specs.Board.{Sides, OfMaker, Own-slots, Lawful, Best-facts, Best, is_maker, slots_on, slot_of, set_slot, with_slots, lifting, no_quotes, clear, first_quote, best, less}
+use Rattle.board.specs.Board.{Sides, OfMaker, OwnSlots, Lawful, BestFacts, Best, is_maker, slots_on, slot_of, set_slot, with_slots, lifting, no_quotes, clear, first_quote, best, less}
 use Rattle.board.specs.Kinds.{sole_admits, sole_slots, sole_sides, sole_slot}
 use Rattle.board.proofs.Bests.{best_law}
 use Rattle.board.proofs.Places.{own_none, own_set, none_slot, length_slots, slot_outside, slot_set_same, slot_set_other, set_slot_same, set_slot_again, less_keeps}
@@ -16,7 +16,7 @@ module _ (maker : ℕ) (slot : Option Quote) (own : OfMaker maker slot) where
   none_outside None is n = refl
   none_outside (Some q) is n = absurd (both_ways (is_maker maker) n (own q (sym is)).2)
 
-  pub sole_own : Own-slots (sole_slots maker slot)
+  pub sole_own : OwnSlots (sole_slots maker slot)
   sole_own = own_set no_quotes own_none maker slot (λ q is. (own q is).0) (λ q is. (own q is).1)
 
   -- the maker's slot, and the slots of the others
@@ -30,7 +30,7 @@ module _ (maker : ℕ) (slot : Option Quote) (own : OfMaker maker slot) where
   pub sole_none : (m : ℕ) → (m ≡ maker → ⊥) → slot_of m (sole_slots maker slot) ≡ None
   sole_none m ne = slot_set_other m maker slot no_quotes ne ∙ none_slot m
 
-  only_first : (side : Side) (b : Option Quote) → Best-facts side (sole_slots maker slot) b → slot ≡ b
+  only_first : (side : Side) (b : Option Quote) → BestFacts side (sole_slots maker slot) b → slot ≡ b
   only_first side None l = sym sole_at ∙ l.nothing refl maker
   only_first side (Some q) l =
       elim (cases_eq q.maker maker) [
@@ -76,7 +76,7 @@ own_slot b Sell = b.sells
 pub slot_own_of : (b : Sole) (side : Side) (m : ℕ) (r : Option Quote) → m ≡ b.maker → r ≡ sole_slot side b → OfMaker m r
 slot_own_of b side m r one is q e = rw one (own_slot b side q (sym is ∙ e))
 
-side_own : (b : Sole) (side : Side) → Own-slots (slots_on side (sole_sides b))
+side_own : (b : Sole) (side : Side) → OwnSlots (slots_on side (sole_sides b))
 side_own b Buy = sole_own b.maker b.buy b.buys
 side_own b Sell = sole_own b.maker b.sell b.sells
 

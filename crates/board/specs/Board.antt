@@ -41,7 +41,7 @@ abbrev pub OfSomeSize : List (Option Quote) → Type 0
 OfSomeSize slots = (i : ℕ) (q : Quote) → slice_index_or slots i None ≡ Some q → 0 < q.size
 
 -- sixteen slots, of which both hold
-pub record Own-slots (slots : List (Option Quote)) : Type 0 where
+pub record OwnSlots (slots : List (Option Quote)) : Type 0 where
   pub sixteen : length slots ≡ 16
   pub own : OfOwnMaker slots
   pub some : OfSomeSize slots
@@ -53,8 +53,8 @@ OfMaker maker slot = (q : Quote) → slot ≡ Some q → (q.maker ≡ maker) × 
 -- what holds of every board
 pub record Lawful (admitted : ℕ → Bool) (s : Sides) : Type 0 where
   pub makers : (m : ℕ) → is_maker m ≡ false → admitted m ≡ false
-  pub buys : Own-slots s.buy
-  pub sells : Own-slots s.sell
+  pub buys : OwnSlots s.buy
+  pub sells : OwnSlots s.sell
 
 -- a quote is put if its maker is admitted and its size is above 0
 abbrev pub may_put : (ℕ → Bool) → Quote → Bool
@@ -107,11 +107,11 @@ pub record Leading (side : Side) (slots : List (Option Quote)) (q : Quote) : Typ
   pub others : (maker : ℕ) (p : Quote) → slot_of maker slots ≡ Some p → (p.maker ≢ q.maker) → ranks_before side q p ≡ true
 
 -- nothing is best exactly if no quote stands
-pub record Best-facts (side : Side) (slots : List (Option Quote)) (answer : Option Quote) : Type 0 where
+pub record BestFacts (side : Side) (slots : List (Option Quote)) (answer : Option Quote) : Type 0 where
   pub nothing : answer ≡ None → (maker : ℕ) → slot_of maker slots ≡ None
   pub vacant : ((maker : ℕ) → slot_of maker slots ≡ None) → answer ≡ None
   pub leading : (q : Quote) → answer ≡ Some q → Leading side slots q
 
 -- shut, so that a contract hands it on as it is
 unfoldable pub Best : Side → List (Option Quote) → Option Quote → Type 0
-Best side slots answer = Best-facts side slots answer
+Best side slots answer = BestFacts side slots answer

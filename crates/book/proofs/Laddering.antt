@@ -70,13 +70,13 @@ module _ {side : Side} {own others : List Order} (l : Laddered side own others) 
   enter_poured o new = pour_enter o own (pour others []) (find_append_parts o.number own others (sym (find_poured o.number) ∙ new)).0
 
   pub enter_laddered : (o : Order) → find o.number (poured own others) ≡ None → o.side ≡ side → 0 < o.left → length own + length others < 256 → Laddered side (enter o own) others
-  enter_laddered o new of-side some room =
+  enter_laddered o new of_side some room =
       let none : find o.number (own ++ others) ≡ None = sym (find_poured o.number) ∙ new in
       record {
         apart = distinct_enter o own others none l.apart;
         own_ranked = ranked_enter o own (find_append_parts o.number own others none).0 l.own_ranked;
         others_ranked = l.others_ranked;
-        own_side = all_enter (λ p. same_side p.side side) (all_of_side side) (λ _ _. refl) o own (ap (λ s. same_side s side) of-side ∙ same_self side) l.own_side;
+        own_side = all_enter (λ p. same_side p.side side) (all_of_side side) (λ _ _. refl) o own (ap (λ s. same_side s side) of_side ∙ same_self side) l.own_side;
         others_side = l.others_side;
         own_sized = all_enter (λ p. ltb 0 p.left) all_sized (λ _ _. refl) o own (lt-ltb 0 o.left some) l.own_sized;
         others_sized = l.others_sized;
@@ -121,13 +121,13 @@ module _ {side : Side} {own others : List Order} (l : Laddered side own others) 
 
   pub wake_laddered : (number moment : ℕ) (o : Order) → find number own ≡ Some o → Laddered side (enter (woken_at moment o) (without number own)) others
   wake_laddered number moment o here =
-      let of-side = all_found (λ p. same_side p.side side) (all_of_side side) (λ _ _. refl) number o own l.own_side here in
+      let of_side = all_found (λ p. same_side p.side side) (all_of_side side) (λ _ _. refl) number o own l.own_side here in
       let some = all_found (λ p. ltb 0 p.left) all_sized (λ _ _. refl) number o own l.own_sized here in
       record {
         apart = distinct_enter (woken_at moment o) (without number own) others (gone number o here) (distinct_without number own others l.apart);
         own_ranked = ranked_enter (woken_at moment o) (without number own) (apart_from number o here) (ranked_without number own l.own_ranked);
         others_ranked = l.others_ranked;
-        own_side = all_enter (λ p. same_side p.side side) (all_of_side side) (λ _ _. refl) (woken_at moment o) (without number own) of-side (all_without (λ p. same_side p.side side) (all_of_side side) (λ _ _. refl) number own l.own_side);
+        own_side = all_enter (λ p. same_side p.side side) (all_of_side side) (λ _ _. refl) (woken_at moment o) (without number own) of_side (all_without (λ p. same_side p.side side) (all_of_side side) (λ _ _. refl) number own l.own_side);
         others_side = l.others_side;
         own_sized = all_enter (λ p. ltb 0 p.left) all_sized (λ _ _. refl) (woken_at moment o) (without number own) some (all_without (λ p. ltb 0 p.left) all_sized (λ _ _. refl) number own l.own_sized);
         others_sized = l.others_sized;

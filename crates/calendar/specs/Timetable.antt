@@ -36,7 +36,7 @@ abbrev pub clock : ℕ → ℕ → ℕ
 clock hour minute = hour * 60 + minute
 
 abbrev pub in_summer_else : Bool → ℕ → ℕ → ℕ
-in_summer_else is-summer in-summer in-winter = cond is-summer in-summer in-winter
+in_summer_else is_summer in_summer in_winter = cond is_summer in_summer in_winter
 
 -- the start of pre-open, by weekday and season; no session starts on Saturday and Sunday, whose hours nothing reads
 abbrev pub pre_open_clock : Weekday → Bool → ℕ
