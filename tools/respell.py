@@ -18,8 +18,6 @@ SIGNATURE = re.compile(r"^\s*((?:(?:abbrev|unfoldable|opaque|pub|record|data)\s+
 RECORD = re.compile(r"^\s*(?:pub\s+)?(?:record|data)\s+([^\s(){}.,;:λ]+)")
 TOKEN = re.compile(r"(?<![\w'·-])[A-Za-z][\w']*(?:-[\w']+)+(?![\w'·-])")
 PLAIN = re.compile(r"(?<![\w'·-])[A-Za-z][\w']*(?![\w'·-])")
-# where two names would fall together, or fall on a word of std: the name that it gets instead
-INSTEAD = {}
 # a word that says what the Rust function of the same name answers, a type beside a module of its name in another crate folder, or a
 # word beside a Rust variable of a file that does not cite it: these meet no other antt name
 BESIDE = {
@@ -57,8 +55,6 @@ def declared(root):
 
 
 def spelled(name):
-    if name in INSTEAD:
-        return INSTEAD[name]
     if name[0].isupper():
         return "".join(part[0].upper() + part[1:] for part in name.split("-"))
     return name.replace("-", "_")
