@@ -1,25 +1,18 @@
 -- The years from 2024 to 2043, counted from 0, in closed form.
-use Rattle.std.proofs.Common.{◌≡◌, ℕ, zero, suc, ◌+◌, ◌-◌, ◌*◌, ◌/◌, ◌%◌, ◌<◌, ◌≤◌, cond, eqb, refl, ap, ◌∙◌, ⊎_elim, arith}
+use Rattle.std.proofs.Common.{◌≡◌, ℕ, zero, suc, ◌+◌, ◌-◌, ◌*◌, ◌/◌, ◌%◌, ◌<◌, ◌≤◌, ◌==◌, refl, arith}
 use native.Mathlib.Nat.{sub-zero}
-use Rattle.std.proofs.lemmas.Bool.{cond-true, cond-false, cases_lt, lt-ltb, le-ltb}
 use Rattle.std.proofs.lemmas.Bool.Decides.{nat_tests}
-use Rattle.calendar.specs.Civil.{leap_year, year_length, days_of_years, year_from, year_of}
+use Rattle.calendar.specs.Civil.{leap_year, year_length, days_of_years, first_day_of_year, year_from, year_of}
 
--- 1 January of the year, and of the next
+-- 1 January of the year
 abbrev pub new_year : ℕ → ℕ
 new_year k = 365 * k + (k + 3) / 4
 
-abbrev pub leap_day : ℕ → ℕ
-leap_day k = new_year (k + 1) - new_year k - 365
-
-pub leap_is : (k : ℕ) → k < 76 → leap_year (2024 + k) ≡ eqb (k % 4) 0
-leap_is k h = grind (arith, nat_tests)
-
-pub leap_day_is : (k : ℕ) → leap_day k ≡ cond (eqb (k % 4) 0) 1 0
-leap_day_is k = grind (arith, nat_tests)
+pub leap_is : (year : ℕ) → 2024 ≤ year → year < 2100 → leap_year year ≡ (year % 4 == 0)
+leap_is year lo hi = grind (arith, nat_tests)
 
 length_is : (k : ℕ) → k < 76 → year_length (2024 + k) ≡ new_year (k + 1) - new_year k
-length_is k h = let e = leap_is k h in grind (arith, nat_tests)
+length_is k h = let e = leap_is (2024 + k) (omega arith) (omega arith) in grind (arith, nat_tests)
 
 pub days_of_years_is : (k : ℕ) → k ≤ 76 → days_of_years k ≡ new_year k
 unfolding days_of_years
@@ -34,17 +27,9 @@ year_from_is : (n j k day : ℕ) → j ≤ k → k < j + n → j + n ≤ 76 → 
 unfolding year_from
 year_from_is zero j k day lo hi few h = absurd (omega arith)
 year_from_is (suc n) j k day lo hi few h =
-    let len : year_length (2024 + j) ≡ new_year (j + 1) - new_year j = length_is j (omega arith) in
-    ⊎_elim
-    (λ (here : day - new_year j < year_length (2024 + j)).
-    let e : 2024 + j ≡ 2024 + k = omega arith in
-    cond-true _ _ _ (lt-ltb _ _ here) ∙ e)
-    (λ (later : year_length (2024 + j) ≤ day - new_year j).
-    let y : suc (2024 + j) ≡ 2024 + (j + 1) = omega arith in
-    let d : day - new_year j - year_length (2024 + j) ≡ day - new_year (j + 1) = omega arith in
-    let r : year_from n (2024 + (j + 1)) (day - new_year (j + 1)) ≡ 2024 + k = year_from_is n (j + 1) k day (omega arith) (omega arith) (omega arith) h in
-    cond-false _ _ _ (le-ltb _ _ later) ∙ ap (λ z. year_from n z (day - new_year j - year_length (2024 + j))) y ∙ ap (λ z. year_from n (2024 + (j + 1)) z) d ∙ r)
-    (cases_lt (day - new_year j) (year_length (2024 + j)))
+    let len = length_is j (omega arith) in
+    let later : j + 1 ≤ k → year_from n (2024 + (j + 1)) (day - new_year (j + 1)) ≡ 2024 + k = λ lt. year_from_is n (j + 1) k day lt (omega arith) (omega arith) h in
+    grind (arith, nat_tests)
 
 pub year_of_is : (k day : ℕ) → k < 20 → InYear k day → year_of day ≡ 2024 + k
 year_of_is k day lt h = simp sub-zero at (year_from_is 20 0 k day (omega arith) (omega arith) (omega arith) h)
@@ -55,3 +40,9 @@ year_index day = 4 * (day / 1461) + (day % 1461 - 1) / 365
 
 pub year_index_is : (day : ℕ) → day < 7305 → (year_index day < 20) × InYear (year_index day) day
 year_index_is day h = (omega arith, (omega arith, omega arith))
+
+pub year_by_division : (day : ℕ) → day < 7305 → year_of day ≡ 2024 + year_index day
+year_by_division day h = let i = year_index_is day h in year_of_is (year_index day) day i.0 i.1
+
+pub first_day_is : (year : ℕ) → 2024 ≤ year → year < 2044 → first_day_of_year year ≡ new_year (year - 2024)
+first_day_is year lo hi = days_of_years_is (year - 2024) (omega arith)

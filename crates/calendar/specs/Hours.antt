@@ -1,5 +1,5 @@
 -- What a calendar answers, and the calendars that stand over others.
-use Rattle.std.specs.Prelude.{◌≡◌, ℕ, ◌<◌, ◌≤◌, Bool, cond, ◌&&◌, List, [], ◌∷◌, length, ◌==◌, nat_le, nat_lt, slice_index_or}
+use Rattle.std.specs.Prelude.{ℕ, Bool, cond, ◌&&◌, List, [], ◌∷◌, ◌==◌, nat_le, nat_lt}
 use Rattle.calendar.specs.declared.phase.Phase.{Phase}
 use Rattle.calendar.specs.declared.phase.Phase.TheVariants.{Closed, PreOpen, Matching}
 use Rattle.calendar.specs.declared.phase.Stretch.{Stretch}
@@ -28,16 +28,6 @@ holds s minute = nat_le s.from minute && nat_lt minute s.until
 abbrev pub listed : List Stretch → ℕ → Phase
 listed [] minute = Closed
 listed (s ∷ ss) minute = cond (holds s minute) (phase_of s.phase s.day) (listed ss minute)
-
--- what stands at a place of a list, and past its end a stretch that holds no minute
-abbrev pub stretch_at : List Stretch → ℕ → Stretch
-stretch_at stretches i = slice_index_or stretches i (record { from = 0; until = 0; phase = 0; day = 0 })
-
--- the place of the first stretch that holds the minute, or the list's length
-pub record FirstHolding (stretches : List Stretch) (minute place : ℕ) : Type 0 where
-  pub within : place ≤ length stretches
-  pub before : (i : ℕ) → i < place → holds (stretch_at stretches i) minute ≡ Bool.false
-  pub found : place < length stretches → holds (stretch_at stretches place) minute ≡ Bool.true
 
 abbrev pub is_open : Phase → Bool
 is_open Closed = Bool.false

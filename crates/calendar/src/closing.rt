@@ -26,14 +26,8 @@ impl<C: Calendar> Calendar for Closing<C> {
 
     fn phase(&self, minute: u32) -> Phase {
         match self.below.phase(minute) {
-            Phase::Closed => Phase::Closed,
-            open => {
-                if open.day() == self.day {
-                    Phase::Closed
-                } else {
-                    open
-                }
-            }
+            Phase::PreOpen(day) | Phase::Matching(day) if day == self.day => Phase::Closed,
+            phase => phase,
         }
     }
 }

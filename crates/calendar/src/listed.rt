@@ -1,6 +1,6 @@
-ghost use Rattle.std.specs.Prelude.{◌≡◌, ℕ};
+ghost use Rattle.std.specs.Prelude.{◌≡◌, ℕ, find};
 ghost use Rattle.calendar.specs.declared.phase.Phase.{Phase};
-ghost use Rattle.calendar.specs.Hours.{listed, FirstHolding};
+ghost use Rattle.calendar.specs.Hours.{holds, listed};
 
 use crate::Calendar;
 use crate::phase::{Phase, Stretch};
@@ -19,27 +19,18 @@ impl<'a> Listed<'a> {
     }
 }
 
-// The place of the first stretch that holds the minute, or how many there are.
-fn first_holding(stretches: &[Stretch], minute: u32) -> usize
-    ensures { FirstHolding stretches.now minute result }
+// The first stretch that holds the minute.
+fn first_holding(stretches: &[Stretch], minute: u32) -> Option<Stretch>
+    ensures { result ≡ find (λ s. holds s minute) stretches.now }
 {
-    for (i, s) in stretches.iter().enumerate() {
-        if s.holds(minute) {
-            return i;
-        }
-    }
-    stretches.len()
+    stretches.iter().find(|s| s.holds(minute)).copied()
 }
 
 impl Calendar for Listed<'_> {
     ghost hours = { λ c. listed c.stretches.now };
 
+    #[tactic(auto, using(crate::proofs::Stretches::listed_is))]
     fn phase(&self, minute: u32) -> Phase {
-        let first = first_holding(self.stretches, minute);
-        if first < self.stretches.len() {
-            self.stretches[first].answer()
-        } else {
-            Phase::Closed
-        }
+        first_holding(self.stretches, minute).map_or(Phase::Closed, |s| s.answer())
     }
 }

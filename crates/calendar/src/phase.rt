@@ -10,6 +10,7 @@ pub enum Phase {
 }
 
 impl Phase {
+    // The number by which a line of the tape shows it.
     pub fn number(&self) -> u32
         ensures { result ≡ phase_number self.now }
     {
@@ -20,14 +21,13 @@ impl Phase {
         }
     }
 
-    // The session day, 0 if closed.
+    // The session day, and 0 if closed, as a market shows it.
     pub fn day(&self) -> u32
         ensures { result ≡ session_day self.now }
     {
         match self {
             Phase::Closed => 0,
-            Phase::PreOpen(day) => *day,
-            Phase::Matching(day) => *day,
+            Phase::PreOpen(day) | Phase::Matching(day) => *day,
         }
     }
 }
@@ -37,6 +37,7 @@ impl Phase {
 pub struct Stretch {
     pub from: u32,
     pub until: u32,
+    // A number, as a listed calendar is given it: any other than 1 or 2 means closed.
     pub phase: u32,
     pub day: u32,
 }
@@ -45,7 +46,7 @@ impl Stretch {
     pub fn holds(&self, minute: u32) -> bool
         ensures { result ≡ holds self.now minute }
     {
-        self.from <= minute && minute < self.until
+        (self.from..self.until).contains(&minute)
     }
 
     // What it answers for the minutes that it holds: a phase number other than 1 or 2 means closed.

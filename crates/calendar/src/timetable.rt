@@ -1,12 +1,11 @@
 ghost use Rattle.std.specs.Prelude.{◌≡◌, ◌<◌, length};
+ghost use Rattle.calendar.specs.Civil.{year_of};
 ghost use Rattle.calendar.specs.KnownHours.{known_hours, KnownHoursHold};
 ghost use Rattle.calendar.specs.Sessions.{HoursLaw};
 ghost use Rattle.calendar.specs.Timetable.{summer, starts_session, starts_on, hours_of, session_of, phase_in, session_phase, timetable};
 
 use crate::Calendar;
-use crate::civil::{
-    Weekday, first_sunday_of_november, new_year, second_sunday_of_march, years_since_2024,
-};
+use crate::civil::{Weekday, Year};
 use crate::phase::Phase;
 use terms::{LAST_MINUTE, MINUTES_A_DAY};
 
@@ -17,30 +16,54 @@ pub enum Group {
     Cross,
 }
 
-// A session's hours, in minutes after 00:00: `pre_open` and `matching` start on its own day, and it ends on the next.
+// A day that the timetable covers, with its year.
 #[derive(Clone, Copy)]
-struct SessionHours {
-    pre_open: u32,
-    matching: u32,
-    end: u32,
+struct SessionDay {
+    day: u32,
+    year: Year,
+    ghost covered: { day < 7305 },
+    ghost dated: { year.number ≡ year_of day },
 }
 
-// Summer lies strictly between the second Sunday of March and the first Sunday of November.
-fn is_summer(day: u32) -> bool
-    requires { day < 7305 }
-    ensures { result ≡ summer day }
-{
-    let years = years_since_2024(day);
-    let spring = second_sunday_of_march(years);
-    let autumn = first_sunday_of_november(years);
-    spring < day && day < autumn
-}
+impl SessionDay {
+    fn of(day: u32) -> Self
+        requires { day < 7305 }
+        ensures { result.day ≡ day }
+    {
+        SessionDay {
+            day,
+            year: Year::of(day),
+        }
+    }
 
-fn starts_session(day: u32) -> bool
-    requires { day < 7305 }
-    ensures { result ≡ starts_session day }
-{
-    starts_on(Weekday::of(day), day, new_year(years_since_2024(day)))
+    // Summer lies strictly between the second Sunday of March and the first Sunday of November, 34 weeks later:
+    // March to October have 245 days, which is 35 weeks.
+    #[tactic(auto, using(crate::proofs::Seasons::summer_from))]
+    fn is_summer(self) -> bool
+        ensures { result ≡ summer self.day }
+    {
+        let spring = self.year.second_sunday_of_march();
+        spring < self.day && self.day < spring + 34 * 7
+    }
+
+    #[tactic(auto, unfolding(crate::specs::Timetable::starts_session))]
+    fn starts_session(self) -> bool
+        ensures { result ≡ starts_session self.day }
+    {
+        starts_on(Weekday::of(self.day), self.day, self.year.first_day())
+    }
+
+    // What the minute is in the session of the day.
+    #[tactic(auto, unfolding(crate::specs::Timetable::session_phase))]
+    fn phase(self, group: Group, minute: u32) -> Phase
+        ensures { result ≡ session_phase group self.day minute }
+    {
+        if self.starts_session() {
+            Session::of(group, self).phase(minute)
+        } else {
+            Phase::Closed
+        }
+    }
 }
 
 // A Monday is 2 January after a Sunday.
@@ -55,44 +78,45 @@ fn starts_on(weekday: Weekday, day: u32, new_year: u32) -> bool
     }
 }
 
-// In summer all but Monday's start is an hour earlier.
+// A session's hours, in minutes after 00:00: `pre_open` and `matching` start on its own day, and it ends on the next.
+#[derive(Clone, Copy)]
+struct SessionHours {
+    pre_open: u32,
+    matching: u32,
+    end: u32,
+}
+
+// In summer all but Monday's start is an hour earlier. No session starts at the weekend, whose hours nothing reads.
 fn hours_of(group: Group, weekday: Weekday, summer: bool) -> SessionHours
     ensures { result ≡ hours_of group weekday summer }
 {
     let earlier = if summer { 60 } else { 0 };
-    let (end, friday_end) = match group {
-        Group::Yen => (6 * 60 + 55, 6 * 60),
-        Group::Cross => (6 * 60 + 25, 5 * 60 + 30),
+    let winter_end = match (group, weekday) {
+        (Group::Yen, Weekday::Friday) => 6 * 60,
+        (Group::Yen, _) => 6 * 60 + 55,
+        (Group::Cross, Weekday::Friday) => 5 * 60 + 30,
+        (Group::Cross, _) => 6 * 60 + 25,
     };
     match weekday {
-        Weekday::Monday => SessionHours {
-            pre_open: 6 * 60 + 10,
-            matching: 7 * 60 + 10,
-            end: end - earlier,
-        },
-        Weekday::Tuesday | Weekday::Wednesday | Weekday::Thursday => {
-            SessionHours {
-                pre_open: 7 * 60 + 45 - earlier,
-                matching: 7 * 60 + 55 - earlier,
-                end: end - earlier,
-            }
-        }
-        Weekday::Friday => {
-            SessionHours {
-                pre_open: 7 * 60 + 45 - earlier,
-                matching: 7 * 60 + 55 - earlier,
-                end: friday_end - earlier,
-            }
-        }
         Weekday::Saturday | Weekday::Sunday => SessionHours {
             pre_open: 0,
             matching: 0,
             end: 0,
         },
+        Weekday::Monday => SessionHours {
+            pre_open: 6 * 60 + 10,
+            matching: 7 * 60 + 10,
+            end: winter_end - earlier,
+        },
+        _ => SessionHours {
+            pre_open: 7 * 60 + 45 - earlier,
+            matching: 7 * 60 + 55 - earlier,
+            end: winter_end - earlier,
+        },
     }
 }
 
-// A session in minutes, counted as the days are.
+// A session in minutes, counted as the days are: no `SessionHours`, which counts from 00:00 and knows no day.
 #[derive(Clone, Copy)]
 struct Session {
     day: u32,
@@ -103,14 +127,14 @@ struct Session {
 
 impl Session {
     // The hours of a session that starts on the day.
-    fn of(group: Group, day: u32) -> Self
-        requires { day < 7305 }
-        ensures { result ≡ session_of group day }
+    #[tactic(auto, unfolding(crate::specs::Timetable::pre_open_start, crate::specs::Timetable::matching_start, crate::specs::Timetable::session_end))]
+    fn of(group: Group, start: SessionDay) -> Self
+        ensures { result ≡ session_of group start.day }
     {
-        let hours = hours_of(group, Weekday::of(day), is_summer(day));
-        let midnight = day * MINUTES_A_DAY;
+        let hours = hours_of(group, Weekday::of(start.day), start.is_summer());
+        let midnight = start.day * MINUTES_A_DAY;
         Session {
-            day,
+            day: start.day,
             pre_open: midnight + hours.pre_open,
             matching: midnight + hours.matching,
             end: midnight + MINUTES_A_DAY + hours.end,
@@ -132,17 +156,6 @@ impl Session {
     }
 }
 
-fn session_phase(group: Group, day: u32, minute: u32) -> Phase
-    requires { day < 7305 }
-    ensures { result ≡ session_phase group day minute }
-{
-    if starts_session(day) {
-        Session::of(group, day).phase(minute)
-    } else {
-        Phase::Closed
-    }
-}
-
 // What the session of the minute's own day says, else what that of the day before says.
 fn timetable_phase(group: Group, minute: u32) -> Phase
     ensures { result ≡ timetable group minute }
@@ -151,18 +164,10 @@ fn timetable_phase(group: Group, minute: u32) -> Phase
         return Phase::Closed;
     }
     let day = minute / MINUTES_A_DAY;
-    match session_phase(group, day, minute) {
-        Phase::Closed if day > 0 => session_phase(group, day - 1, minute),
+    match SessionDay::of(day).phase(group, minute) {
+        Phase::Closed if day > 0 => SessionDay::of(day - 1).phase(group, minute),
         phase => phase,
     }
-}
-
-// The same, with what the answer tells of the sessions.
-fn lawful_phase(group: Group, minute: u32) -> Phase
-    ensures hours { result ≡ timetable group minute }
-    ensures sessions { HoursLaw group minute result }
-{
-    timetable_phase(group, minute)
 }
 
 // The regular hours of a group, from 1 January 2024 to minute 9,999,999, in January 2043.
@@ -182,26 +187,20 @@ impl Timetable {
 impl Calendar for Timetable {
     ghost hours = { λ t. timetable t.group };
 
+    #[tactic(auto, using(crate::proofs::HoursLaw::hours_law))]
     fn phase(&self, minute: u32) -> Phase
         ensures hours { result ≡ timetable self.now.group minute }
         ensures sessions { HoursLaw self.now.group minute result }
     {
-        lawful_phase(self.group, minute)
+        timetable_phase(self.group, minute)
     }
 }
 
-// The timetable says of each known minute what it should.
-fn known_hours_hold() -> u8
-    ensures { KnownHoursHold }
-{
-    0
-}
-
 // How many minutes the table of known hours has.
+#[tactic(auto, using(crate::proofs::Computed::known_hours_hold))]
 pub fn known_minutes() -> u32
     ensures hold { KnownHoursHold }
     ensures count { result ≡ length known_hours }
 {
-    let _ = known_hours_hold();
     112
 }
