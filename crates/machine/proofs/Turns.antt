@@ -1,30 +1,31 @@
 -- The law of a turn holds of the machine. Assumes nothing.
-use Rattle.std.proofs.Common.{◌≡◌, ℕ, Some, None, refl, ⊎_elim}
-use Rattle.std.proofs.lemmas.Bool.{le-ltb, lt-ltb, le-leb, lt-leb, cases_lt}
+use Rattle.std.proofs.Common.{◌≡◌, ℕ, Some, None, Option, refl, arith}
+use Rattle.std.proofs.lemmas.Bool.Decides.{nat_tests}
 use Rattle.calendar.specs.declared.phase.Phase.{Phase}
 use Rattle.machine.specs.Laws.{MayTurn, TurnLaw}
 use Rattle.machine.specs.Machine.{State, turn_refusal, step}
 use Rattle.machine.specs.declared.words.Call.TheVariants.{Turn}
 use Rattle.machine.specs.declared.words.Refusal.{Refusal}
-use Rattle.machine.specs.declared.words.Refusal.TheVariants.{TapeTooShort, MomentsSpent, MinuteTooLate, MinuteBeforeHeld}
 
 module _ (room minute : ℕ) (s : State) where
   -- the tests pass exactly where the turn may be
   pub passes : MayTurn room minute s → turn_refusal room minute s ≡ None
-  passes may =
-      rw (le-ltb room 1024 may.long, lt-leb 4000000 s.moment may.early, le-ltb 9999999 minute may.range, le-ltb minute s.minute may.forward) refl
+  passes may = grind (arith, nat_tests, may.long, may.early, may.range, may.forward)
+
+  allowed : turn_refusal room minute s ≡ None → MayTurn room minute s
+  allowed none = record {
+    long = grind (arith, nat_tests);
+    early = grind (arith, nat_tests);
+    range = grind (arith, nat_tests);
+    forward = grind (arith, nat_tests);
+  }
 
   pub fails : (MayTurn room minute s → ⊥) → (why : Refusal) × (turn_refusal room minute s ≡ Some why)
-  fails not =
-      ⊎_elim (λ h. (TapeTooShort, rw (lt-ltb room 1024 h) refl))
-      (λ a. ⊎_elim (λ h. ⊎_elim (λ h2. (MinuteTooLate, rw (le-ltb room 1024 a, lt-leb 4000000 s.moment h, lt-ltb 9999999 minute h2) refl))
-      (λ b. ⊎_elim (λ h3. (MinuteBeforeHeld, rw (le-ltb room 1024 a, lt-leb 4000000 s.moment h, le-ltb 9999999 minute b, lt-ltb minute s.minute h3) refl))
-      (λ d. absurd (not (record { long = a; early = h; range = b; forward = d })))
-      (cases_lt minute s.minute))
-      (cases_lt 9999999 minute))
-      (λ h. (MomentsSpent, rw (le-ltb room 1024 a, le-leb 4000000 s.moment h) refl))
-      (cases_lt s.moment 4000000))
-      (cases_lt room 1024)
+  fails not = by_answer (turn_refusal room minute s) refl
+    where
+      by_answer : (o : Option Refusal) → turn_refusal room minute s ≡ o → (why : Refusal) × (turn_refusal room minute s ≡ Some why)
+      by_answer None none = absurd (not (allowed none))
+      by_answer (Some why) is = (why, is)
 
 pub turn_law : (hours : ℕ → Phase) (room minute : ℕ) (s : State) → TurnLaw hours room minute s (step hours room (Turn minute) s)
 turn_law hours room minute s = record {

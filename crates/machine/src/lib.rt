@@ -30,11 +30,8 @@ impl Line {
         Line {
             kind: Line::TURN,
             number: phase.number(),
-            party: 0,
-            side: 0,
-            price: 0,
-            size: 0,
             moment,
+            ..Line::BLANK
         }
     }
 }

@@ -14,6 +14,7 @@ pub enum Refusal {
 }
 
 // One line of the tape. A field that its kind does not name is 0.
+// `kind` and `side` are numbers: the tape is stored as it is printed, and no side is 0.
 #[derive(Clone, Copy, Debug, PartialEq, Eq)]
 pub struct Line {
     pub kind: u8,

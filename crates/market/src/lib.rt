@@ -1,9 +1,9 @@
 // A market over any calendar. Each call does what the step of the machine does.
 #![tactic(auto)]
 
-ghost use Rattle.std.specs.Prelude.{◌≡◌, length};
+ghost use Rattle.std.specs.Prelude.{◌≡◌, length, Some, None, MatchResult};
 ghost use Rattle.machine.specs.Laws.{TurnLaw};
-ghost use Rattle.machine.specs.Machine.{start, step};
+ghost use Rattle.machine.specs.Machine.{start, step, turn_refusal};
 ghost use Rattle.machine.specs.declared.words.Call.TheVariants.{Turn};
 ghost use Rattle.market.specs.Plays.{state_of, held_of, Plays};
 
@@ -24,6 +24,7 @@ pub struct Held {
     pub moment: u32,
 }
 
+// Flat, as `Held` without its day: a struct for the three fields would only lengthen each use.
 #[derive(Drop)]
 pub struct Market<C> {
     calendar: C,
@@ -66,12 +67,11 @@ impl<C: Calendar> Market<C> {
         }
     }
 
-    // Asks the calendar for the minute, writes T, and holds the minute with the answer.
-    pub fn turn(&mut self, minute: u32, tape: &mut [Line]) -> Result<usize, Refusal>
-        ensures step { Plays (step (C.Calendar.hours self.old.calendar) (length tape.old) (Turn minute) (state_of self.old)) self.old tape.old result self.new tape.new }
-        ensures law { TurnLaw (C.Calendar.hours self.old.calendar) (length tape.old) minute (state_of self.old) (step (C.Calendar.hours self.old.calendar) (length tape.old) (Turn minute) (state_of self.old)) }
+    // The tests of a turn on a tape with room for so many lines, in their order.
+    fn may_turn(&self, minute: u32, room: usize) -> Result<(), Refusal>
+        ensures { MatchResult result (λ _. turn_refusal room minute (state_of self.now) ≡ None) (λ why. turn_refusal room minute (state_of self.now) ≡ Some why) }
     {
-        if tape.len() < LEAST_ROOM {
+        if room < LEAST_ROOM {
             return Err(Refusal::TapeTooShort);
         }
         if self.moment >= MOMENT_LIMIT {
@@ -83,6 +83,15 @@ impl<C: Calendar> Market<C> {
         if minute < self.minute {
             return Err(Refusal::MinuteBeforeHeld);
         }
+        Ok(())
+    }
+
+    // Asks the calendar for the minute, writes T, and holds the minute with the answer.
+    pub fn turn(&mut self, minute: u32, tape: &mut [Line]) -> Result<usize, Refusal>
+        ensures step { Plays (step (C.Calendar.hours self.old.calendar) (length tape.old) (Turn minute) (state_of self.old)) self.old tape.old result self.new tape.new }
+        ensures law { TurnLaw (C.Calendar.hours self.old.calendar) (length tape.old) minute (state_of self.old) (step (C.Calendar.hours self.old.calendar) (length tape.old) (Turn minute) (state_of self.old)) }
+    {
+        self.may_turn(minute, tape.len())?;
         match (self.phase, self.calendar.phase(minute)) {
             // nothing to close
             (Phase::Closed, Phase::Closed) => {}
