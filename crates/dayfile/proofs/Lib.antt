@@ -1,8 +1,5 @@
-pub mod Calls
-pub mod Cuts
 pub mod Digits
 pub mod Files
 pub mod Joins
-pub mod Numbers
 pub mod Pieces
-pub mod Rows
+pub mod Turns

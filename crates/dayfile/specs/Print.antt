@@ -1,5 +1,6 @@
 -- The text of the tape.
 use Rattle.std.specs.Prelude.{ℕ, cond, List, [], ◌∷◌, ◌++◌, codes, decimal, ◌==◌}
+use Rattle.std.specs.List.{flat_map}
 use Rattle.machine.specs.Words.{refusal_number}
 use Rattle.machine.specs.declared.words.Line.{Line}
 use Rattle.machine.specs.declared.words.Refusal.{Refusal}
@@ -16,10 +17,9 @@ letter_of kind =
     cond (kind == 1) 84 (cond (kind == 2) 81 (cond (kind == 3) 65 (cond (kind == 4) 87
     (cond (kind == 5) 70 (cond (kind == 6) 67 (cond (kind == 7) 88 (cond (kind == 8) 76 63)))))))
 
--- a comma and the decimal digits of each number
+-- a comma and the decimal digits of each number, and byte 10
 abbrev pub columns : List ℕ → List ℕ
-columns [] = 10 ∷ []
-columns (n ∷ ns) = 44 ∷ (decimal n ++ columns ns)
+columns ns = flat_map (λ n. 44 ∷ decimal n) ns ++ 10 ∷ []
 
 -- a row: a letter, six numbers, byte 10
 abbrev pub row : ℕ → ℕ → ℕ → ℕ → ℕ → ℕ → ℕ → List ℕ

@@ -1,5 +1,6 @@
 -- What a day file says: the calls before its first fault, and the fault.
 use Rattle.std.specs.Prelude.{ℕ, ◌+◌, ◌-◌, ◌*◌, cond, List, [], ◌∷◌, length, drop, Some, None, Ok, Err, vec_items, codes, Option, Result, ◌==◌, nat_le, nat_lt, slice_index}
+use Rattle.std.specs.List.{fold}
 use Rattle.std.specs.Str.{bytes_eq}
 use Rattle.machine.specs.declared.words.Call.{Call}
 use Rattle.machine.specs.declared.words.Call.TheVariants.{Turn}
@@ -49,8 +50,7 @@ call_word bytes = cond (bytes_eq bytes (codes "turn")) (Some TurnWord) None
 
 -- the value of digits, on from what is read already
 abbrev pub value_on : ℕ → List ℕ → ℕ
-value_on n [] = n
-value_on n (b ∷ bs) = value_on (n * 10 + (b - 48)) bs
+value_on n bs = fold (λ v b. v * 10 + (b - 48)) n bs
 
 abbrev pub number_by : Kind → List ℕ → Fault → Result ℕ Fault
 number_by blank bytes fault = Ok 0

@@ -1,6 +1,6 @@
 -- A day file as lines of fields, each with its place.
-use Rattle.std.specs.Prelude.{◌≡◌, ℕ, ◌+◌, Bool, true, cond, ◌&&◌, ◌⊎◌, List, [], ◌∷◌, ◌++◌, map, length, Some, None, vec_items, Option, ◌==◌, nat_le}
-use Rattle.std.specs.Option.{unwrap_or}
+use Rattle.std.specs.Prelude.{◌≡◌, ℕ, ◌+◌, Bool, cond, ◌&&◌, ◌⊎◌, List, [], ◌∷◌, ◌++◌, map, length, vec_items, ◌==◌, nat_le}
+use Rattle.std.specs.List.{list_all, before_first, after_first, slice_split, join_with_byte}
 use Rattle.dayfile.specs.declared.field.Field.{Field}
 use Rattle.dayfile.specs.declared.field.Row.{Row}
 use Rattle.dayfile.specs.declared.field.Token.{Token}
@@ -8,37 +8,15 @@ use Rattle.dayfile.specs.declared.field.Token.TheVariants.{Word, Digits, Blank}
 
 -- the bytes before the first mark
 abbrev pub until : ℕ → List ℕ → List ℕ
-until mark [] = []
-until mark (b ∷ bs) = cond (b == mark) [] (b ∷ until mark bs)
-
--- the bytes after the first mark, if there is one
-abbrev pub after : ℕ → List ℕ → Option (List ℕ)
-after mark [] = None
-after mark (b ∷ bs) = cond (b == mark) (Some bs) (after mark bs)
+until mark bs = before_first (λ b. b == mark) bs
 
 -- what follows the first mark; nothing where there is none
 abbrev pub following : ℕ → List ℕ → List ℕ
-following mark bs = unwrap_or (after mark bs) []
-
--- how many bytes a cut leaves, the mark among them
-abbrev pub rest_size : Option (List ℕ) → ℕ
-rest_size None = 0
-rest_size (Some bs) = length bs + 1
-
-abbrev pub onto_first : ℕ → List (List ℕ) → List (List ℕ)
-onto_first b [] = (b ∷ []) ∷ []
-onto_first b (p ∷ ps) = (b ∷ p) ∷ ps
+following mark bs = after_first (λ b. b == mark) bs
 
 -- the pieces between the marks: one more than there are marks
 abbrev pub split : ℕ → List ℕ → List (List ℕ)
-split mark [] = [] ∷ []
-split mark (b ∷ bs) = cond (b == mark) ([] ∷ split mark bs) (onto_first b (split mark bs))
-
--- the pieces with a mark between each two
-abbrev pub join : ℕ → List (List ℕ) → List ℕ
-join mark [] = []
-join mark (p ∷ []) = p
-join mark (p ∷ q ∷ ps) = p ++ (mark ∷ join mark (q ∷ ps))
+split mark bs = slice_split (λ b. b == mark) bs
 
 abbrev pub unless_empty : List ℕ → List (List ℕ)
 unless_empty [] = []
@@ -63,8 +41,7 @@ abbrev pub is_digit : ℕ → Bool
 is_digit b = nat_le 48 b && nat_le b 57
 
 abbrev pub all_digits : List ℕ → Bool
-all_digits [] = true
-all_digits (b ∷ bs) = is_digit b && all_digits bs
+all_digits bs = list_all is_digit bs
 
 -- no bytes: blank; digits alone: digits; else a word
 abbrev pub kind_of : List ℕ → Kind
@@ -114,10 +91,10 @@ places_of row = map place_of (vec_items row.fields)
 
 -- the bytes that rows stand for: a comma between two fields, byte 10 between two lines
 abbrev pub row_text : List Place → List ℕ
-row_text row = join 44 (map (λ p. p.bytes) row)
+row_text row = join_with_byte 44 (map (λ p. p.bytes) row)
 
 abbrev pub text_of : List (List Place) → List ℕ
-text_of rows = join 10 (map row_text rows)
+text_of rows = join_with_byte 10 (map row_text rows)
 
 -- the rows give the file back, but for an ending byte 10
 abbrev pub Rejoins : List (List Place) → List ℕ → Type 0

@@ -2,6 +2,7 @@
 ghost use Rattle.std.specs.Prelude.{◌≡◌};
 ghost use Rattle.dayfile.specs.Reading.{fault_number, fault_layer, fault_line, fault_column};
 
+// A place struct for the two variants with line and column would only lengthen the patterns.
 #[derive(Clone, Copy, Debug, PartialEq, Eq)]
 pub enum Fault {
     // more than 65,536 bytes
@@ -22,9 +23,9 @@ impl Fault {
         match self {
             Fault::TooLong => 21,
             Fault::WrongNames => 22,
-            Fault::FieldCount { line: _ } => 23,
-            Fault::UnknownCall { line: _, column: _ } => 24,
-            Fault::NotDigits { line: _, column: _ } => 25,
+            Fault::FieldCount { .. } => 23,
+            Fault::UnknownCall { .. } => 24,
+            Fault::NotDigits { .. } => 25,
         }
     }
 
@@ -33,23 +34,21 @@ impl Fault {
         ensures { result ≡ fault_layer self.now }
     {
         match self {
-            Fault::TooLong => 1,
-            Fault::WrongNames => 1,
-            Fault::FieldCount { line: _ } => 2,
-            Fault::UnknownCall { line: _, column: _ } => 3,
-            Fault::NotDigits { line: _, column: _ } => 3,
+            Fault::TooLong | Fault::WrongNames => 1,
+            Fault::FieldCount { .. } => 2,
+            Fault::UnknownCall { .. } | Fault::NotDigits { .. } => 3,
         }
     }
 
     pub fn line(&self) -> u32
         ensures { result ≡ fault_line self.now }
     {
-        match self {
+        match *self {
             Fault::TooLong => 0,
             Fault::WrongNames => 1,
-            Fault::FieldCount { line } => *line,
-            Fault::UnknownCall { line, column: _ } => *line,
-            Fault::NotDigits { line, column: _ } => *line,
+            Fault::FieldCount { line }
+            | Fault::UnknownCall { line, .. }
+            | Fault::NotDigits { line, .. } => line,
         }
     }
 
@@ -57,12 +56,9 @@ impl Fault {
     pub fn column(&self) -> u32
         ensures { result ≡ fault_column self.now }
     {
-        match self {
-            Fault::TooLong => 0,
-            Fault::WrongNames => 0,
-            Fault::FieldCount { line: _ } => 0,
-            Fault::UnknownCall { line: _, column } => *column,
-            Fault::NotDigits { line: _, column } => *column,
+        match *self {
+            Fault::UnknownCall { column, .. } | Fault::NotDigits { column, .. } => column,
+            Fault::TooLong | Fault::WrongNames | Fault::FieldCount { .. } => 0,
         }
     }
 }

@@ -1,6 +1,6 @@
 // The fields of a day file.
 ghost use Rattle.std.specs.Prelude.{◌≡◌};
-ghost use Rattle.dayfile.specs.Text.{all_digits, kind_of, token_kind, token_bytes};
+ghost use Rattle.dayfile.specs.Text.{kind_of, token_kind, token_bytes};
 
 // What a field of a day file holds, as a part of the file's own bytes.
 #[derive(Clone, Copy, Debug)]
@@ -24,41 +24,26 @@ pub struct Row<'a> {
     pub fields: Vec<Field<'a>>,
 }
 
-fn only_digits(bytes: &[u8]) -> bool
-    ensures { result ≡ all_digits bytes.now }
-{
-    for b in bytes {
-        if *b < b'0' || *b > b'9' {
-            return false;
-        }
-    }
-    true
-}
-
-impl Token<'_> {
-    // Blank with no bytes, digits with digits alone, else a word.
-    pub fn of(bytes: &[u8]) -> Token<'_>
+impl<'a> Token<'a> {
+    // Blank with no bytes, digits with digits alone, else a word. A `From` would say no more, in one unnamed clause.
+    pub fn of(bytes: &'a [u8]) -> Self
         ensures kind { token_kind result ≡ kind_of bytes.now }
         ensures bytes { token_bytes result ≡ bytes.now }
     {
         if bytes.is_empty() {
             Token::Blank(bytes)
-        } else if only_digits(bytes) {
+        } else if bytes.iter().all(|b| b.is_ascii_digit()) {
             Token::Digits(bytes)
         } else {
             Token::Word(bytes)
         }
     }
-}
 
-impl<'a> Token<'a> {
     pub fn bytes(&self) -> &'a [u8]
         ensures { result.now ≡ token_bytes self.now }
     {
         match self {
-            Token::Word(bytes) => bytes,
-            Token::Digits(bytes) => bytes,
-            Token::Blank(bytes) => bytes,
+            Token::Word(bytes) | Token::Digits(bytes) | Token::Blank(bytes) => bytes,
         }
     }
 }

@@ -1,12 +1,33 @@
 // The text of tape lines and faults.
-ghost use Rattle.std.specs.Prelude.{◌≡◌, ◌<◌, IfOk, string_bytes};
-ghost use Rattle.dayfile.specs.Print.{letter_of, row, line_row, fault_row, refusal_row};
+ghost use Rattle.std.specs.Prelude.{◌≡◌, ◌<◌, ◌∷◌, IfOk, Some, string_bytes};
+ghost use Rattle.dayfile.specs.Print.{columns, letter_of, line_row, fault_row, refusal_row};
 
 use crate::fault::Fault;
 use machine::{Line, Refusal};
 use std::alloc::{AllocError, Global};
+use std::fmt;
 
-// The letter of a line's kind.
+// A row of the tape: a letter and six numbers.
+#[derive(Clone, Copy)]
+pub struct TapeRow {
+    letter: char,
+    numbers: [u32; 6],
+    ghost ascii: { letter < 128 },
+}
+
+impl fmt::Display for TapeRow {
+    ghost output = { λ r. Some (r.letter ∷ columns r.numbers) };
+
+    fn fmt<W: fmt::Write>(&self, f: &mut fmt::Formatter<W>) -> fmt::Result {
+        write!(f, "{}", self.letter)?;
+        for n in &self.numbers {
+            write!(f, ",{n}")?;
+        }
+        writeln!(f)
+    }
+}
+
+// The letter of a line's kind, which a stored line holds as a number.
 pub fn letter(kind: u8) -> char
     ensures { result ≡ letter_of kind }
 {
@@ -23,56 +44,68 @@ pub fn letter(kind: u8) -> char
     }
 }
 
-// A letter, six numbers and byte 10.
-fn row_text(
-    heap: Global,
-    letter: char,
-    a: u32,
-    b: u32,
-    c: u32,
-    d: u32,
-    e: u32,
-    f: u32,
-) -> Result<String, AllocError>
-    requires { letter < 128 }
-    ensures { IfOk result (λ t. string_bytes t ≡ row letter a b c d e f) }
-{
-    format!(in heap; "{letter},{a},{b},{c},{d},{e},{f}\n")
+impl From<&Line> for TapeRow {
+    ghost from_gives = { λ line r. r.letter ∷ columns r.numbers ≡ line_row line.now };
+
+    fn from(line: &Line) -> Self {
+        TapeRow {
+            letter: letter(line.kind),
+            numbers: [
+                line.number,
+                line.party,
+                line.side as u32,
+                line.price,
+                line.size,
+                line.moment,
+            ],
+        }
+    }
+}
+
+impl From<&Fault> for TapeRow {
+    ghost from_gives = { λ fault r. r.letter ∷ columns r.numbers ≡ fault_row fault.now };
+
+    fn from(fault: &Fault) -> Self {
+        TapeRow {
+            letter: 'E',
+            numbers: [
+                fault.number(),
+                fault.layer(),
+                fault.line(),
+                fault.column(),
+                0,
+                0,
+            ],
+        }
+    }
+}
+
+impl TapeRow {
+    // A refusal of the market stands in layer 4, at the line of its call.
+    pub fn refused(why: &Refusal, line: u32) -> Self
+        ensures { result.letter ∷ columns result.numbers ≡ refusal_row why.now line }
+    {
+        TapeRow {
+            letter: 'E',
+            numbers: [why.number(), 4, line, 0, 0, 0],
+        }
+    }
 }
 
 pub fn line_text(heap: Global, line: &Line) -> Result<String, AllocError>
     ensures { IfOk result (λ t. string_bytes t ≡ line_row line.now) }
 {
-    row_text(
-        heap,
-        letter(line.kind),
-        line.number,
-        line.party,
-        line.side as u32,
-        line.price,
-        line.size,
-        line.moment,
-    )
+    TapeRow::from(line).to_string(heap)
 }
 
 pub fn fault_text(heap: Global, fault: &Fault) -> Result<String, AllocError>
     ensures { IfOk result (λ t. string_bytes t ≡ fault_row fault.now) }
 {
-    row_text(
-        heap,
-        'E',
-        fault.number(),
-        fault.layer(),
-        fault.line(),
-        fault.column(),
-        0,
-        0,
-    )
+    TapeRow::from(fault).to_string(heap)
 }
 
-// A refusal of the market stands in layer 4, at the line of its call.
 pub fn refusal_text(heap: Global, refusal: &Refusal, line: u32) -> Result<String, AllocError>
     ensures { IfOk result (λ t. string_bytes t ≡ refusal_row refusal.now line) }
 {
-    row_text(heap, 'E', refusal.number(), 4, line, 0, 0, 0)
+    TapeRow::refused(refusal, line).to_string(heap)
 }

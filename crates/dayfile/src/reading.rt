@@ -14,7 +14,7 @@ pub struct Numbered {
     pub call: Call,
 }
 
-// The calls before the first fault, and the fault, if any.
+// The calls before the first fault, and the fault, if any. No `Result`: the calls before a fault are played too.
 #[derive(Drop)]
 pub struct Reading {
     pub calls: Vec<Numbered>,

@@ -1,6 +1,16 @@
-use Rattle.std.proofs.Common.{vec_items}
-use Rattle.dayfile.proofs.Rows.{ReadTo}
+use Rattle.std.proofs.Common.{◌≡◌, ◌+◌, ◌≤◌, List, ◌++◌, map, length, vec_items}
+use Rattle.dayfile.specs.declared.reading.Numbered.{Numbered}
+use Rattle.dayfile.specs.Reading.{Read, read_from}
+use Rattle.dayfile.specs.Text.{places_of}
 use Rattle.dayfile.proofs.read.read_rows.Given as goal
 
-abbrev pub invariant-loop-row : goal.invariant-loop-row
-invariant-loop-row l = ReadTo l.rows (vec_items l.calls) l.line l.row-index
+-- what is read so far, before what is read from the rows that are left
+abbrev pub behind : List Numbered → Read → Read
+behind cs r = record { calls = cs ++ r.calls; fault = r.fault }
+
+abbrev pub invariant-loop-line : goal.invariant-loop-line
+invariant-loop-line l =
+    record {
+      whole : behind (vec_items l.calls) (read_from l.line-iterator.a.start (map places_of l.line-iterator.b.rest.now)) ≡ read_from 2 (map places_of l.rows);
+      inside : l.line-iterator.a.start + length l.line-iterator.b.rest.now ≤ length l.rows + 2;
+    }

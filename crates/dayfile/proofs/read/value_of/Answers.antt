@@ -1,29 +1,19 @@
-use Rattle.std.proofs.Common.{◌≡◌, ◌+◌, ◌-◌, ◌*◌, ◌^◌, ◌<◌, ◌≤◌, get_or, drop, sym, ap, ◌∙◌, arith}
-use Rattle.std.proofs.lemmas.List.{at_drop_more, at_drop_all}
+use Rattle.std.proofs.Common.{◌≡◌, ℕ, ◌+◌, ◌-◌, ◌*◌, ◌^◌, ◌<◌, map, length, Some, Bor, refl, sym, ap, ◌∙◌, arith, rules}
+use Rattle.std.proofs.lemmas.Fn.{fold_same}
+use Rattle.std.proofs.lemmas.Iterator.{YieldsList-from_slice}
+use Rattle.std.proofs.lemmas.Iterator.Consumers.{YieldsList-so_far, YieldsList-turn}
+use Rattle.std.proofs.lemmas.List.{get_or_default}
 use Rattle.dayfile.specs.Reading.{value_on}
-use Rattle.dayfile.proofs.Digits.{small_more, small_fits}
+use Rattle.dayfile.proofs.Digits.{fits_more, value_push}
 use Rattle.dayfile.proofs.read.value_of.Goals as goal
-use Rattle.dayfile.proofs.read.value_of.Goals.{After-saturating_sub}
 
-low : (c : After-saturating_sub) → c.saturating_sub.result ≤ 207
-low c = omega (arith, c.saturating_sub.ensures)
-
-pub overflow_mul-value : goal.overflow_mul-value
-overflow_mul-value c =
-    let fits : c.loop-d.value * 10 + 0 < 2 ^ 32 = small_fits c.loop-d.value c.loop-d.d-index 0 c.loop-d.invariant.1 (omega arith) (omega arith) in
-    record { fits = omega arith }
-
-pub overflow_add-value : goal.overflow_add-value
-overflow_add-value c = record { fits = small_fits c.loop-d.value c.loop-d.d-index c.saturating_sub.result c.loop-d.invariant.1 (omega arith) (low c) }
-
-pub loop-d-preserved : goal.loop-d-preserved
-loop-d-preserved c =
-    let ds = c.args.digits.now in
-    let i = c.loop-d.d-index in
-    let v = c.loop-d.value in
-    let step : value_on v (drop i ds) ≡ value_on (v * 10 + (get_or ds i 0 - 48)) (drop (i + 1) ds) = at_drop_more (value_on v) ds i 0 c.loop-d-test.true in
-    (ap (λ d. value_on (v * 10 + d) (drop (i + 1) ds)) c.saturating_sub.ensures ∙ sym step ∙ c.loop-d.invariant.0, small_more v i c.saturating_sub.result c.loop-d.invariant.1 (low c))
-
-pub returns : goal.returns
-returns c =
-    sym (at_drop_all (value_on c.loop-d.value) c.args.digits.now c.loop-d.d-index c.loop-d-test.false) ∙ c.loop-d.invariant.0
+pub fold-requires-clause-callable : goal.fold-requires-clause-callable
+fold-requires-clause-callable c = record {
+  at = λ xs t q x u yields calls step.
+      let turn = YieldsList-turn (YieldsList-from_slice c.args.digits.now (cc)) xs t yields (Some x) u x refl step in
+      let read = YieldsList-so_far (YieldsList-from_slice c.args.digits.now (cc)) xs t yields in
+      let value : q.1 ≡ value_on 0 (map (λ (y : Bor ℕ). y.now) xs) = fold_same _ (λ ys v. v ≡ value_on 0 (map (λ (y : Bor ℕ). y.now) ys)) _ (λ ys a y b f' was call. (let more : b ≡ a * 10 + (y.now - 48) = search rules in more ∙ ap (λ v. v * 10 + (y.now - 48)) was ∙ sym (value_push ys y), search rules)) xs 0 q.1 q.0 refl calls in
+      let low : x.now < 256 = omega (arith, turn.1, get_or_default c.args.digits.now (length xs) x.now 0 turn.0, (c.type_inv.digits (length xs)).fits) in
+      let fits : q.1 * 10 + (x.now - 48) < 2 ^ 32 = omega (arith, fits_more (length xs) x.now c.args.digits.now (λ i. omega (arith, (c.type_inv.digits i).fits)) turn.0 c.requires low, value, ap (value_on 0) read) in
+      search rules;
+}

@@ -1,9 +1,11 @@
-use Rattle.std.proofs.Common.{vec_items}
-use Rattle.dayfile.proofs.Pieces.{Fielded, left}
+use Rattle.std.proofs.Common.{◌≡◌, ◌+◌, ◌++◌, map, length, drop, vec_items}
+use Rattle.dayfile.specs.Text.{split, placed, fields, place_of}
+use Rattle.dayfile.proofs.Pieces.{room}
 use Rattle.dayfile.proofs.text.fields_of.Given as goal
 
-abbrev pub invariant-loop-rest : goal.invariant-loop-rest
-invariant-loop-rest l = Fielded l.bytes l.line (vec_items l.out) l.column l.rest
-
-abbrev pub decreases-loop-rest : goal.decreases-loop-rest
-decreases-loop-rest l = left l.rest
+abbrev pub invariant-loop-piece : goal.invariant-loop-piece
+invariant-loop-piece l =
+    record {
+      whole : map place_of (vec_items l.out) ++ placed l.line l.column (drop (length l.yielded) (split 44 l.bytes)) ≡ fields l.line l.bytes;
+      inside : l.column + room (drop (length l.yielded) (split 44 l.bytes)) ≡ length l.bytes + 2;
+    }
