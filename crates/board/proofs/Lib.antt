@@ -1,3 +1,4 @@
+pub mod BothSides
 pub mod Places
 pub mod Bests
 pub mod Soles

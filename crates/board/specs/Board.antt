@@ -1,29 +1,24 @@
 -- What a board holds, and what each call makes of it.
-use Rattle.std.specs.Prelude.{◌≡◌, ℕ, ◌+◌, ◌-◌, ◌<◌, Bool, true, false, cond, ◌&&◌, List, map, length, replicate, Some, None, Option, ◌==◌, ◌≢◌, nat_le, nat_lt, slice_index_or, slice_set}
+use Rattle.std.specs.Prelude.{◌≡◌, ℕ, ◌+◌, ◌-◌, ◌<◌, Bool, true, false, cond, not, ◌&&◌, List, map, length, replicate, Some, None, Option, Ok, Err, Result, ⊤, if◌then◌else◌, ◌==◌, ◌≢◌, nat_le, nat_lt, slice_index_or, slice_set}
 use Rattle.std.specs.Option.{option_map}
 use Rattle.rank.specs.Firsts.{through, leader}
+use Rattle.terms.specs.BySide.{on_side, with_side}
+use Rattle.terms.specs.Limits.{is_maker}
+use Rattle.terms.specs.declared.by_side.BySide.{BySide}
 use Rattle.terms.specs.declared.side.Side.{Side}
-use Rattle.terms.specs.declared.side.Side.TheVariants.{Buy, Sell}
+use Rattle.board.specs.declared.refusal.BoardRefusal.{BoardRefusal}
+use Rattle.board.specs.declared.refusal.BoardRefusal.TheVariants.{NotAdmitted, NoSize, NoQuote, TooLarge}
 use Rattle.board.specs.declared.quote.Quote.{Quote}
 use Rattle.board.specs.declared.quote.SideQuote.{SideQuote}
 use Rattle.board.specs.Ranks.{entry_before, entry_of, ranks_before}
 
 -- the slots of each side, maker 1 first, each empty or with a quote
-pub record Sides : Type 0 where
-  pub buy : List (Option Quote)
-  pub sell : List (Option Quote)
+abbrev pub Sides : Type 0
+Sides = BySide (List (Option Quote))
 
-abbrev pub slots_on : Side → Sides → List (Option Quote)
-slots_on Buy s = s.buy
-slots_on Sell s = s.sell
-
-abbrev pub with_slots : Side → List (Option Quote) → Sides → Sides
-with_slots Buy slots s = record { buy = slots; sell = s.sell }
-with_slots Sell slots s = record { buy = s.buy; sell = slots }
-
--- there are sixteen makers
-abbrev pub is_maker : ℕ → Bool
-is_maker maker = nat_lt 0 maker && nat_le maker 16
+-- the same done to the thing of each side
+abbrev pub each_side : {A B : Type 0} → (A → B) → BySide A → BySide B
+each_side f both = record { buy = f both.buy; sell = f both.sell }
 
 -- a maker's slot; any other number has none
 abbrev pub slot_of : ℕ → List (Option Quote) → Option Quote
@@ -60,28 +55,41 @@ pub record Lawful (admitted : ℕ → Bool) (s : Sides) : Type 0 where
 abbrev pub may_put : (ℕ → Bool) → Quote → Bool
 may_put admitted q = admitted q.maker && nat_lt 0 q.size
 
+-- what a board says to a quote: the maker is tested first
+abbrev pub put_answer : (ℕ → Bool) → Quote → Result ⊤ BoardRefusal
+put_answer admitted q = if not (admitted q.maker) then Err NotAdmitted else (if q.size == 0 then Err NoSize else Ok tt)
+
 -- the quote in its maker's slot, in place of the old one
 abbrev pub putting : Side → Quote → Sides → Sides
-putting side q s = with_slots side (set_slot q.maker (Some q) (slots_on side s)) s
+putting side q s = with_side side (set_slot q.maker (Some q) (on_side side s)) s
 
 -- both slots of a maker empty
 abbrev pub lifting : ℕ → Sides → Sides
-lifting maker s = record { buy = set_slot maker None s.buy; sell = set_slot maker None s.sell }
+lifting maker = each_side (set_slot maker None)
 
 -- a size is taken from a quote that has it
 abbrev pub may_take : ℕ → Option Quote → Bool
 may_take size None = false
 may_take size (Some q) = nat_le size q.size
 
+-- what a board says to a size that is asked of a slot: whether a quote stands is tested first
+abbrev pub take_answer : ℕ → Option Quote → Result ⊤ BoardRefusal
+take_answer size None = Err NoQuote
+take_answer size (Some q) = if nat_lt q.size size then Err TooLarge else Ok tt
+
 -- what is left of a quote; one of size 0 is gone
 abbrev pub less : ℕ → Quote → Option Quote
 less size q = cond (nat_lt size q.size) (Some (record { maker = q.maker; price = q.price; size = q.size - size; moment = q.moment })) None
+
+-- the same of a size that is asked: a quote that has less refuses it
+abbrev pub left_of : ℕ → Quote → Result (Option Quote) BoardRefusal
+left_of size q = if nat_lt q.size size then Err TooLarge else Ok (less size q)
 
 abbrev pub take_slot : ℕ → ℕ → List (Option Quote) → List (Option Quote)
 take_slot maker size slots = set_slot maker (through (less size) (slot_of maker slots)) slots
 
 abbrev pub taking : Side → ℕ → ℕ → Sides → Sides
-taking side maker size s = with_slots side (take_slot maker size (slots_on side s)) s
+taking side maker size s = with_side side (take_slot maker size (on_side side s)) s
 
 abbrev pub no_quotes : List (Option Quote)
 no_quotes = replicate 16 None
@@ -98,7 +106,7 @@ abbrev pub first_quote : Side → List (Option Quote) → Option Quote
 first_quote side slots = option_map (λ p. p.1.quote) (leader entry_before (entries side slots))
 
 abbrev pub best : Side → Sides → Option Quote
-best side s = first_quote side (slots_on side s)
+best side s = first_quote side (on_side side s)
 
 -- what the best of a side tells of its quotes
 pub record Leading (side : Side) (slots : List (Option Quote)) (q : Quote) : Type 0 where

@@ -3,3 +3,4 @@ pub mod Board
 pub mod Kinds
 pub mod Laws
 pub mod Orders
+pub mod Lawfuls

@@ -1,8 +1,6 @@
 ghost use Rattle.board.specs.Laws.{SlotLaws};
 
 // What each call makes of the quotes, maker by maker.
-fn slot_laws_hold() -> u8
+fn slot_laws_hold()
     ensures { SlotLaws }
-{
-    0
-}
+{}

@@ -1,13 +1,13 @@
 // The board of a market: what each maker offers on each side, and the best of a side.
 #![tactic(auto)]
 
-ghost use Rattle.std.specs.Prelude.{◌≡◌, ℕ, Bool, if◌then◌else◌};
-ghost use Rattle.board.specs.Board.{Sides, Lawful, slots_on, slot_of, may_put, putting, lifting, may_take, taking, clear, best, Best};
+ghost use Rattle.std.specs.Prelude.{◌≡◌, ℕ, Bool, is_ok, if◌then◌else◌};
+ghost use Rattle.terms.specs.BySide.{on_side};
+ghost use Rattle.board.specs.Board.{Sides, Lawful, slot_of, put_answer, putting, lifting, take_answer, taking, clear, best, Best};
 
 mod laws;
-mod makers;
 pub mod quote;
-pub mod ranks;
+pub mod refusal;
 mod slots;
 pub mod sole;
 pub mod suspended;
@@ -16,6 +16,7 @@ pub mod table;
 mod tests;
 
 pub use quote::{Quote, SideQuote};
+pub use refusal::BoardRefusal;
 pub use sole::Sole;
 pub use suspended::Suspended;
 pub use table::Table;
@@ -30,36 +31,46 @@ pub trait Board {
     ghost sides: { Self → Sides };
 
     fn admits(&self, maker: u32) -> bool
-        ensures answer { result ≡ admitted self.now maker }
-        ensures lawful { Lawful (admitted self.now) (sides self.now) };
+        ensures { result ≡ admitted self.now maker };
+
+    // Whether a quote may be put: its maker is admitted, and its size is above 0.
+    fn check(&self, quote: &Quote) -> Result<(), BoardRefusal>
+        ensures { result ≡ put_answer (admitted self.now) quote.now }
+    {
+        if !self.admits(quote.maker) {
+            return Err(BoardRefusal::NotAdmitted);
+        }
+        if quote.size == 0 {
+            return Err(BoardRefusal::NoSize);
+        }
+        Ok(())
+    }
 
     // Puts a quote in place of its maker's old one, unless the maker is not admitted or the size is 0.
-    fn put(&mut self, side: Side, quote: Quote) -> bool
-        ensures answer { result ≡ may_put (admitted self.old) quote }
-        ensures after { sides self.new ≡ (if result then putting side quote (sides self.old) else sides self.old) }
-        ensures makers { admitted self.new ≡ admitted self.old }
-        ensures lawful { Lawful (admitted self.new) (sides self.new) };
+    fn put(&mut self, side: Side, quote: Quote) -> Result<(), BoardRefusal>
+        ensures answer { result ≡ put_answer (admitted self.old) quote }
+        ensures after { sides self.new ≡ (if is_ok result then putting side quote (sides self.old) else sides self.old) }
+        ensures makers { admitted self.new ≡ admitted self.old };
 
     // Lifts both quotes of a maker, if any stand.
     fn lift(&mut self, maker: u32)
         ensures after { sides self.new ≡ lifting maker (sides self.old) }
-        ensures makers { admitted self.new ≡ admitted self.old }
-        ensures lawful { Lawful (admitted self.new) (sides self.new) };
+        ensures makers { admitted self.new ≡ admitted self.old };
 
     fn best(&self, side: Side) -> Option<Quote>
         ensures answer { result ≡ best side (sides self.now) }
-        ensures lawful { Lawful (admitted self.now) (sides self.now) }
-        ensures law { Best side (slots_on side (sides self.now)) result };
+        ensures law { Best side (on_side side (sides self.now)) result };
 
     // Takes a size from a maker's quote, unless there is none or it has less. A quote of size 0 is gone.
-    fn take(&mut self, side: Side, maker: u32, size: u32) -> bool
-        ensures answer { result ≡ may_take size (slot_of maker (slots_on side (sides self.old))) }
-        ensures after { sides self.new ≡ (if result then taking side maker size (sides self.old) else sides self.old) }
-        ensures makers { admitted self.new ≡ admitted self.old }
-        ensures lawful { Lawful (admitted self.new) (sides self.new) };
+    fn take(&mut self, side: Side, maker: u32, size: u32) -> Result<(), BoardRefusal>
+        ensures answer { result ≡ take_answer size (slot_of maker (on_side side (sides self.old))) }
+        ensures after { sides self.new ≡ (if is_ok result then taking side maker size (sides self.old) else sides self.old) }
+        ensures makers { admitted self.new ≡ admitted self.old };
 
     fn clear(&mut self)
         ensures after { sides self.new ≡ clear }
-        ensures makers { admitted self.new ≡ admitted self.old }
-        ensures lawful { Lawful (admitted self.new) (sides self.new) };
+        ensures makers { admitted self.new ≡ admitted self.old };
+
+    // What holds of every board, whatever is done with it.
+    ghost lawful: { (b : Self) → Lawful (admitted b) (sides b) };
 }

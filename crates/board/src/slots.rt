@@ -1,20 +1,18 @@
 // The slots of one side of the table.
-ghost use Rattle.std.specs.Prelude.{◌≡◌, ◌<◌, length, if◌then◌else◌, Some, None};
+ghost use Rattle.std.specs.Prelude.{◌≡◌, ◌<◌, is_ok, if◌then◌else◌, Some, None};
 ghost use Rattle.board.specs.declared.quote.Quote.{Quote};
-ghost use Rattle.board.specs.Board.{OfOwnMaker, OfSomeSize, slot_of, set_slot, no_quotes, may_take, take_slot, first_quote, Best};
+ghost use Rattle.board.specs.Board.{OwnSlots, slot_of, set_slot, no_quotes, take_answer, take_slot, first_quote, Best};
 
-use crate::makers::is_maker;
 use crate::quote::Quote;
+use crate::refusal::BoardRefusal;
 use rank::first;
-use terms::{MAKERS, Side};
+use terms::{MAKERS, Side, is_maker};
 
 // Maker 1 comes first.
 #[derive(Clone, Copy)]
 pub(crate) struct Slots {
     pub(crate) quotes: [Option<Quote>; MAKERS],
-    ghost sixteen: { length quotes ≡ 16 },
-    ghost own: { OfOwnMaker quotes },
-    ghost some: { OfSomeSize quotes },
+    ghost own: { OwnSlots quotes },
 }
 
 impl Slots {
@@ -26,14 +24,11 @@ impl Slots {
         }
     }
 
-    pub(crate) fn get(&self, maker: u32) -> Option<Quote>
+    fn get(&self, maker: u32) -> Option<Quote>
         ensures { result ≡ slot_of maker self.now.quotes }
     {
-        if is_maker(maker) {
-            self.quotes[maker as usize - 1]
-        } else {
-            None
-        }
+        let place = maker.checked_sub(1)?;
+        *self.quotes.get(place as usize)?
     }
 
     // Writes a maker's slot, if there is one.
@@ -61,17 +56,13 @@ impl Slots {
     }
 
     // Takes a size from a maker's quote, if it has that.
-    pub(crate) fn take(&mut self, maker: u32, size: u32) -> bool
-        ensures answer { result ≡ may_take size (slot_of maker self.old.quotes) }
-        ensures left { self.new.quotes ≡ (if result then take_slot maker size self.old.quotes else self.old.quotes) }
+    pub(crate) fn take(&mut self, maker: u32, size: u32) -> Result<(), BoardRefusal>
+        ensures answer { result ≡ take_answer size (slot_of maker self.old.quotes) }
+        ensures left { self.new.quotes ≡ (if is_ok result then take_slot maker size self.old.quotes else self.old.quotes) }
     {
-        match self.get(maker) {
-            Some(quote) if size <= quote.size => {
-                self.set(maker, quote.less(size));
-                true
-            }
-            _ => false,
-        }
+        let quote = self.get(maker).ok_or(BoardRefusal::NoQuote)?;
+        self.set(maker, quote.taken(size)?);
+        Ok(())
     }
 
     // The first by rank of the quotes.
@@ -79,9 +70,7 @@ impl Slots {
         ensures answer { result ≡ first_quote side self.now.quotes }
         ensures law { Best side self.now.quotes result }
     {
-        match first(&self.quotes, side) {
-            Some(place) => self.quotes[place],
-            None => None,
-        }
+        let place = first(&self.quotes, side)?;
+        self.quotes[place]
     }
 }

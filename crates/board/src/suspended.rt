@@ -2,9 +2,11 @@
 ghost use Rattle.std.specs.Prelude.{◌≡◌};
 ghost use Rattle.board.specs.Board.{lifting};
 ghost use Rattle.board.specs.Kinds.{all_but};
+ghost use Rattle.board.specs.Lawfuls.{all_but_lawful};
 
 use crate::Board;
 use crate::quote::Quote;
+use crate::refusal::BoardRefusal;
 use terms::Side;
 
 // Admits those that the board below admits, but for one maker. The quotes are those below.
@@ -31,13 +33,15 @@ impl<B: Board> Board for Suspended<B> {
 
     ghost sides = { λ s. B.Board.sides s.below };
 
+    ghost lawful = { λ s. all_but_lawful (B.Board.admitted s.below) (B.Board.sides s.below) s.maker (B.Board.lawful s.below) };
+
     fn admits(&self, maker: u32) -> bool {
         self.below.admits(maker) && maker != self.maker
     }
 
-    fn put(&mut self, side: Side, quote: Quote) -> bool {
-        if !self.admits(quote.maker) {
-            return false;
+    fn put(&mut self, side: Side, quote: Quote) -> Result<(), BoardRefusal> {
+        if quote.maker == self.maker {
+            return Err(BoardRefusal::NotAdmitted);
         }
         self.below.put(side, quote)
     }
@@ -50,7 +54,7 @@ impl<B: Board> Board for Suspended<B> {
         self.below.best(side)
     }
 
-    fn take(&mut self, side: Side, maker: u32, size: u32) -> bool {
+    fn take(&mut self, side: Side, maker: u32, size: u32) -> Result<(), BoardRefusal> {
         self.below.take(side, maker, size)
     }
 

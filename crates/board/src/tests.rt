@@ -1,5 +1,6 @@
 use crate::Board;
 use crate::quote::Quote;
+use crate::refusal::BoardRefusal;
 use crate::sole::Sole;
 use crate::suspended::Suspended;
 use crate::table::Table;
@@ -30,11 +31,14 @@ fn story<B: Board>(rt: &impl Abort, board: &mut B, steps: &[Step]) {
     for step in steps {
         match *step {
             Step::Admits(maker, answer) => assert_eq!(rt; board.admits(maker), answer),
-            Step::Put(side, quote, answer) => assert_eq!(rt; board.put(side, quote), answer),
+            Step::Put(side, quote, answer) => assert_eq!(rt;
+                board.put(side, quote).is_ok(),
+                answer
+            ),
             Step::Lift(maker) => board.lift(maker),
             Step::Best(side, answer) => assert_eq!(rt; board.best(side), answer),
             Step::Take(side, maker, size, answer) => assert_eq!(rt;
-                board.take(side, maker, size),
+                board.take(side, maker, size).is_ok(),
                 answer
             ),
             Step::Clear => board.clear(),
@@ -146,4 +150,37 @@ fn suspension_lifts(rt: HostRuntime) {
         Step::Best(Side::Buy, None),
     ];
     story(&rt, &mut Suspended::new(table, 7), &after);
+}
+
+// What is tested first is what the refusal tells.
+#[test]
+fn refusals_say_why(rt: HostRuntime) {
+    let mut table = Table::new();
+    let mut sole = Sole::new(7);
+    let mut suspended = Suspended::new(Table::new(), 7);
+    let small = quote(7, 105, 5, 1);
+    let empty = quote(7, 105, 0, 1);
+    assert_eq!(rt;
+        table.put(Side::Buy, quote(17, 105, 0, 1)),
+        Err(BoardRefusal::NotAdmitted)
+    );
+    assert_eq!(rt; table.put(Side::Buy, empty), Err(BoardRefusal::NoSize));
+    assert_eq!(rt; table.put(Side::Buy, small), Ok(()));
+    assert_eq!(rt; table.take(Side::Sell, 7, 6), Err(BoardRefusal::NoQuote));
+    assert_eq!(rt; table.take(Side::Buy, 7, 6), Err(BoardRefusal::TooLarge));
+    assert_eq!(rt; table.take(Side::Buy, 7, 5), Ok(()));
+    assert_eq!(rt;
+        sole.put(Side::Sell, quote(8, 105, 0, 1)),
+        Err(BoardRefusal::NotAdmitted)
+    );
+    assert_eq!(rt; sole.put(Side::Sell, empty), Err(BoardRefusal::NoSize));
+    assert_eq!(rt; sole.put(Side::Sell, small), Ok(()));
+    assert_eq!(rt; sole.take(Side::Sell, 8, 6), Err(BoardRefusal::NoQuote));
+    assert_eq!(rt; sole.take(Side::Sell, 7, 6), Err(BoardRefusal::TooLarge));
+    assert_eq!(rt; suspended.check(&empty), Err(BoardRefusal::NotAdmitted));
+    assert_eq!(rt;
+        suspended.put(Side::Buy, small),
+        Err(BoardRefusal::NotAdmitted)
+    );
+    assert_eq!(rt; suspended.take(Side::Buy, 7, 0), Err(BoardRefusal::NoQuote));
 }

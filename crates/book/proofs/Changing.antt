@@ -1,67 +1,63 @@
 -- What a change of one side keeps, and what it makes of the book. Assumes nothing.
-use Rattle.std.proofs.Common.{◌≡◌, ℕ, suc, ◌-◌, ◌<◌, ◌≤◌, Bool, true, false, cond, not, ◌&&◌, eqb, ltb, leb, List, [], ◌∷◌, ◌++◌, length, Some, None, sym, refl, ap, ◌∙◌, arith}
+use Rattle.std.proofs.Common.{◌≡◌, ℕ, suc, ◌-◌, ◌<◌, ◌≤◌, Bool, true, false, cond, not, ◌&&◌, eqb, ltb, leb, List, [], ◌∷◌, ◌++◌, length, Some, None, sym, refl, ap, ◌∙◌, append-nil, arith}
 use Rattle.std.proofs.lemmas.Bool.{cond_both, and_parts, and_from, eqb-true, eqb-false, ltb-true}
 use Rattle.terms.specs.declared.side.Side.{Side}
 use Rattle.terms.specs.declared.side.Side.TheVariants.{Buy, Sell}
+use Rattle.std.specs.List.{list_all}
 use Rattle.book.specs.declared.order.Order.{Order}
 use Rattle.book.specs.Ladders.{by_force, ahead, all_ahead, ranked, distinct, enter, without, pour}
 use Rattle.book.specs.Orders.{find, place, less, with_left, cut_from}
-use Rattle.book.specs.Ranks.{limited, by_limit, by_side, order_before}
+use Rattle.rank.specs.Sides.{by_side}
+use Rattle.book.specs.Ranks.{limited, by_limit, ranks_before, order_before}
 use Rattle.book.specs.OrderRank.{before_onward, before_decided}
-use Rattle.book.proofs.Placed.{split, some_none, distinct_parts, distinct_from, find_skip, find_past, place_swap, pour_append}
+use Rattle.book.proofs.Placed.{split, distinct_parts, distinct_from, find_skip, find_past, place_swap, pour_append}
 
--- what holds of every order: p is a test, and f says it of a whole list
-module _ (p : Order → Bool) (f : List Order → Bool) (more : (o : Order) (os : List Order) → f (o ∷ os) ≡ (p o && f os)) where
-  all_parts : (o : Order) (os : List Order) → f (o ∷ os) ≡ true → (p o ≡ true) × (f os ≡ true)
-  all_parts o os all = and_parts (p o) (f os) (sym (more o os) ∙ all)
-
-  all_from : (o : Order) (os : List Order) → p o ≡ true → f os ≡ true → f (o ∷ os) ≡ true
-  all_from o os one all = more o os ∙ and_from (p o) (f os) one all
-
-  pub all_place : (o : Order) (os : List Order) → p o ≡ true → f os ≡ true → f (place o os) ≡ true
-  all_place o [] one all = all_from o [] one all
+-- a test that holds of every order
+module _ (p : Order → Bool) where
+  pub all_place : (o : Order) (os : List Order) → p o ≡ true → list_all p os ≡ true → list_all p (place o os) ≡ true
+  all_place o [] one all = and_from _ _ one all
   all_place o (x ∷ xs) one all =
-      let parts = all_parts x xs all in
-      cond_both (leb o.number x.number) (o ∷ x ∷ xs) (x ∷ place o xs) (λ l. f l ≡ true)
-      (λ e. all_from o (x ∷ xs) one all)
-      (λ e. all_from x (place o xs) parts.0 (all_place o xs one parts.1))
+      let parts = and_parts (p x) (list_all p xs) all in
+      cond_both (leb o.number x.number) (o ∷ x ∷ xs) (x ∷ place o xs) (λ l. list_all p l ≡ true)
+      (λ e. and_from _ _ one all)
+      (λ e. and_from _ _ parts.0 (all_place o xs one parts.1))
 
-  pub all_pour : (xs ys : List Order) → f xs ≡ true → f ys ≡ true → f (pour xs ys) ≡ true
+  pub all_pour : (xs ys : List Order) → list_all p xs ≡ true → list_all p ys ≡ true → list_all p (pour xs ys) ≡ true
   all_pour [] ys all others = others
   all_pour (x ∷ xs) ys all others =
-      let parts = all_parts x xs all in
+      let parts = and_parts (p x) (list_all p xs) all in
       all_place x (pour xs ys) parts.0 (all_pour xs ys parts.1 others)
 
-  pub all_enter : (o : Order) (os : List Order) → p o ≡ true → f os ≡ true → f (enter o os) ≡ true
-  all_enter o [] one all = all_from o [] one all
+  pub all_enter : (o : Order) (os : List Order) → p o ≡ true → list_all p os ≡ true → list_all p (enter o os) ≡ true
+  all_enter o [] one all = and_from _ _ one all
   all_enter o (x ∷ xs) one all =
-      let parts = all_parts x xs all in
-      cond_both (ahead o x) (x ∷ enter o xs) (o ∷ x ∷ xs) (λ l. f l ≡ true)
-      (λ e. all_from x (enter o xs) parts.0 (all_enter o xs one parts.1))
-      (λ e. all_from o (x ∷ xs) one all)
+      let parts = and_parts (p x) (list_all p xs) all in
+      cond_both (ahead o x) (x ∷ enter o xs) (o ∷ x ∷ xs) (λ l. list_all p l ≡ true)
+      (λ e. and_from _ _ parts.0 (all_enter o xs one parts.1))
+      (λ e. and_from _ _ one all)
 
-  pub all_without : (n : ℕ) (os : List Order) → f os ≡ true → f (without n os) ≡ true
+  pub all_without : (n : ℕ) (os : List Order) → list_all p os ≡ true → list_all p (without n os) ≡ true
   all_without n [] all = all
   all_without n (x ∷ xs) all =
-      let parts = all_parts x xs all in
-      cond_both (eqb x.number n) xs (x ∷ without n xs) (λ l. f l ≡ true)
+      let parts = and_parts (p x) (list_all p xs) all in
+      cond_both (eqb x.number n) xs (x ∷ without n xs) (λ l. list_all p l ≡ true)
       (λ e. parts.1)
-      (λ e. all_from x (without n xs) parts.0 (all_without n xs parts.1))
+      (λ e. and_from _ _ parts.0 (all_without n xs parts.1))
 
-  pub all_cut : ((o : Order) (left : ℕ) → 0 < left → p o ≡ true → p (with_left left o) ≡ true) → (n size : ℕ) (os : List Order) → f os ≡ true → f (cut_from n size os) ≡ true
+  pub all_cut : ((o : Order) (left : ℕ) → 0 < left → p o ≡ true → p (with_left left o) ≡ true) → (n size : ℕ) (os : List Order) → list_all p os ≡ true → list_all p (cut_from n size os) ≡ true
   all_cut keep n size [] all = all
   all_cut keep n size (x ∷ xs) all =
-      let parts = all_parts x xs all in
-      cond_both (eqb x.number n) (less size x ++ xs) (x ∷ cut_from n size xs) (λ l. f l ≡ true)
-      (λ e. cond_both (ltb size x.left) (with_left (x.left - size) x ∷ []) [] (λ l. f (l ++ xs) ≡ true)
-      (λ t. all_from (with_left (x.left - size) x) xs (keep x (x.left - size) (omega (arith, ltb-true size x.left t)) parts.0) parts.1)
+      let parts = and_parts (p x) (list_all p xs) all in
+      cond_both (eqb x.number n) (less size x ++ xs) (x ∷ cut_from n size xs) (λ l. list_all p l ≡ true)
+      (λ e. cond_both (ltb size x.left) (with_left (x.left - size) x ∷ []) [] (λ l. list_all p (l ++ xs) ≡ true)
+      (λ t. and_from _ _ (keep x (x.left - size) (omega (arith, ltb-true size x.left t)) parts.0) parts.1)
       (λ t. parts.1))
-      (λ e. all_from x (cut_from n size xs) parts.0 (all_cut keep n size xs parts.1))
+      (λ e. and_from _ _ parts.0 (all_cut keep n size xs parts.1))
 
-  pub all_found : (n : ℕ) (o : Order) (os : List Order) → f os ≡ true → find n os ≡ Some o → p o ≡ true
+  pub all_found : (n : ℕ) (o : Order) (os : List Order) → list_all p os ≡ true → find n os ≡ Some o → p o ≡ true
   all_found n o [] all = λ here. cc
   all_found n o (x ∷ xs) all =
-      let parts = all_parts x xs all in
+      let parts = and_parts (p x) (list_all p xs) all in
       elim (eqb x.number n) as (λ v. cond v (Some x) (find n xs) ≡ Some o → p o ≡ true)
       [ true ↦ λ here. found parts.0 here | false ↦ λ here. all_found n o xs parts.1 here ]
     where
@@ -69,7 +65,7 @@ module _ (p : Order → Bool) (f : List Order → Bool) (more : (o : Order) (os 
       found one here = let same : x ≡ o = cc in ap p (sym same) ∙ one
 
 -- the order ahead
-by_force_onward : (u v w : Bool) (p q r : Order) → by_force u v p q ≡ true → by_force v w q r ≡ true → by_force u w p r ≡ true
+pub by_force_onward : (u v w : Bool) (p q r : Order) → by_force u v p q ≡ true → by_force v w q r ≡ true → by_force u w p r ≡ true
 by_force_onward false false false p q r h k = before_onward p q r h k
 by_force_onward false false true p q r h k = refl
 by_force_onward false true false p q r h k = cc
@@ -102,7 +98,7 @@ ranked_enter o (p ∷ ps) new rank =
     let parts = and_parts (all_ahead p ps) (ranked ps) rank in
     let other = apart.0 in
     cond_both (ahead o p) (p ∷ enter o ps) (o ∷ p ∷ ps) (λ l. ranked l ≡ true)
-    (λ e. and_from _ _ (all_enter (λ q. ahead q p) (all_ahead p) (λ _ _. refl) o ps e parts.0) (ranked_enter o ps apart.1 parts.1))
+    (λ e. and_from _ _ (all_enter (λ q. ahead q p) o ps e parts.0) (ranked_enter o ps apart.1 parts.1))
     (λ e.
     let first : ahead p o ≡ true = by_force_decided o.waiting p.waiting o p (λ h. other (sym h)) e in
     and_from _ _ (and_from _ _ first (all_ahead_onward o p ps first parts.0)) rank)
@@ -113,7 +109,7 @@ ranked_without n (p ∷ ps) rank =
     let parts = and_parts (all_ahead p ps) (ranked ps) rank in
     cond_both (eqb p.number n) ps (p ∷ without n ps) (λ l. ranked l ≡ true)
     (λ e. parts.1)
-    (λ e. and_from _ _ (all_without (λ q. ahead q p) (all_ahead p) (λ _ _. refl) n ps parts.0) (ranked_without n ps parts.1))
+    (λ e. and_from _ _ (all_without (λ q. ahead q p) n ps parts.0) (ranked_without n ps parts.1))
 
 -- rank does not read what is left
 module _ (x y : ℕ) (p q : Order) where
@@ -123,7 +119,7 @@ module _ (x y : ℕ) (p q : Order) where
   limit_left true false s = refl
   limit_left true true s = refl
 
-  side_left : (s t : Side) → by_side s t (with_left x p) (with_left y q) ≡ by_side s t p q
+  side_left : (s t : Side) → by_side ranks_before s t (with_left x p) (with_left y q) ≡ by_side ranks_before s t p q
   side_left Buy Buy = limit_left (limited p.kind) (limited q.kind) Buy
   side_left Buy Sell = refl
   side_left Sell Buy = refl
@@ -147,7 +143,7 @@ ranked_cut n size (p ∷ ps) rank =
     (λ e. cond_both (ltb size p.left) (with_left (p.left - size) p ∷ []) [] (λ l. ranked (l ++ ps) ≡ true)
     (λ t. and_from _ _ (ahead_left (p.left - size) p ps ∙ parts.0) parts.1)
     (λ t. parts.1))
-    (λ e. and_from _ _ (all_cut (λ q. ahead q p) (all_ahead p) (λ _ _. refl) (λ q left some h. force_left left p.left q p q.waiting p.waiting ∙ h) n size ps parts.0) (ranked_cut n size ps parts.1))
+    (λ e. and_from _ _ (all_cut (λ q. ahead q p) (λ q left some h. force_left left p.left q p q.waiting p.waiting ∙ h) n size ps parts.0) (ranked_cut n size ps parts.1))
 
 -- no number twice
 find_enter : (n : ℕ) (o : Order) (xs ys : List Order) → (o.number ≡ n → ⊥) → find n (enter o xs ++ ys) ≡ find n (xs ++ ys)
@@ -202,24 +198,44 @@ distinct_cut n size (x ∷ xs) ys apart =
     (λ t. parts.1))
     (λ e. distinct_from x (cut_from n size xs ++ ys) (none_cut x.number n size xs ys parts.0) (distinct_cut n size xs ys parts.1))
 
+-- the same of one list
+alone : (xs : List Order) → distinct xs ≡ true → distinct (xs ++ []) ≡ true
+alone xs apart = ap distinct (append-nil xs) ∙ apart
+
+pub distinct_enter_all : (o : Order) (xs : List Order) → find o.number xs ≡ None → distinct xs ≡ true → distinct (enter o xs) ≡ true
+distinct_enter_all o xs new apart =
+    ap distinct (sym (append-nil (enter o xs))) ∙ distinct_enter o xs [] (ap (find o.number) (append-nil xs) ∙ new) (alone xs apart)
+
+pub distinct_without_all : (n : ℕ) (xs : List Order) → distinct xs ≡ true → distinct (without n xs) ≡ true
+distinct_without_all n xs apart = ap distinct (sym (append-nil (without n xs))) ∙ distinct_without n xs [] (alone xs apart)
+
+pub distinct_cut_all : (n size : ℕ) (xs : List Order) → distinct xs ≡ true → distinct (cut_from n size xs) ≡ true
+distinct_cut_all n size xs apart = ap distinct (sym (append-nil (cut_from n size xs))) ∙ distinct_cut n size xs [] (alone xs apart)
+
 -- the order found
 same_some : (x o : Order) → Some x ≡ Some o → x ≡ o
 same_some x o h = cc
 
 pub found_number : (n : ℕ) (o : Order) (xs : List Order) → find n xs ≡ Some o → o.number ≡ n
-found_number n o [] = λ here. absurd (some_none o (sym here))
+found_number n o [] = λ here. cc
 found_number n o (x ∷ xs) =
     split (λ v. cond v (Some x) (find n xs) ≡ Some o → o.number ≡ n) (eqb x.number n)
     (λ e here. ap (λ y. y.number) (sym (same_some x o here)) ∙ eqb-true _ _ e)
     (λ e here. found_number n o xs here)
 
 pub gone_without : (n : ℕ) (o : Order) (xs ys : List Order) → distinct (xs ++ ys) ≡ true → find n xs ≡ Some o → find n (without n xs ++ ys) ≡ None
-gone_without n o [] ys apart = λ here. absurd (some_none o (sym here))
+gone_without n o [] ys apart = λ here. cc
 gone_without n o (x ∷ xs) ys apart =
     let parts = distinct_parts x (xs ++ ys) apart in
     split (λ v. cond v (Some x) (find n xs) ≡ Some o → find n (cond v xs (x ∷ without n xs) ++ ys) ≡ None) (eqb x.number n)
     (λ e here. ap (λ m. find m (xs ++ ys)) (sym (eqb-true _ _ e)) ∙ parts.0)
     (λ e here. find_skip n x (without n xs ++ ys) (eqb-false _ _ e) ∙ gone_without n o xs ys parts.1 here)
+
+pub gone_without_all : (n : ℕ) (o : Order) (xs : List Order) → distinct xs ≡ true → find n xs ≡ Some o → find o.number (without n xs) ≡ None
+gone_without_all n o xs apart here =
+    ap (λ m. find m (without n xs)) (found_number n o xs here)
+    ∙ ap (find n) (sym (append-nil (without n xs)))
+    ∙ gone_without n o xs [] (alone xs apart) here
 
 -- lengths
 pub length_enter : (o : Order) (xs : List Order) → length (enter o xs) ≡ suc (length xs)
@@ -227,7 +243,7 @@ length_enter o [] = refl
 length_enter o (x ∷ xs) = cond_both (ahead o x) (x ∷ enter o xs) (o ∷ x ∷ xs) (λ l. length l ≡ suc (suc (length xs))) (λ e. ap suc (length_enter o xs)) (λ e. refl)
 
 pub length_without : (n : ℕ) (o : Order) (xs : List Order) → find n xs ≡ Some o → suc (length (without n xs)) ≡ length xs
-length_without n o [] = λ here. absurd (some_none o (sym here))
+length_without n o [] = λ here. cc
 length_without n o (x ∷ xs) =
     elim (eqb x.number n) as (λ v. cond v (Some x) (find n xs) ≡ Some o → suc (length (cond v xs (x ∷ without n xs))) ≡ suc (length xs))
     [ true ↦ λ here. refl | false ↦ λ here. ap suc (length_without n o xs here) ]
@@ -249,7 +265,7 @@ pour_enter o (x ∷ xs) ps new =
     (λ e. refl)
 
 pub pour_without : (n : ℕ) (o : Order) (xs ps : List Order) → find n xs ≡ Some o → pour xs ps ≡ place o (pour (without n xs) ps)
-pour_without n o [] ps = λ here. absurd (some_none o (sym here))
+pour_without n o [] ps = λ here. cc
 pour_without n o (x ∷ xs) ps =
     split (λ v. cond v (Some x) (find n xs) ≡ Some o → place x (pour xs ps) ≡ place o (pour (cond v xs (x ∷ without n xs)) ps)) (eqb x.number n)
     (λ e here. ap (λ y. place y (pour xs ps)) (same_some x o here))
@@ -261,7 +277,7 @@ less_swap size o x ps other =
     [ true ↦ place_swap x (with_left (o.left - size) o) ps other | false ↦ refl ]
 
 pub pour_cut : (n size : ℕ) (o : Order) (xs ps : List Order) → find n xs ≡ Some o → pour (cut_from n size xs) ps ≡ pour (less size o) (pour (without n xs) ps)
-pour_cut n size o [] ps = λ here. absurd (some_none o (sym here))
+pour_cut n size o [] ps = λ here. cc
 pour_cut n size o (x ∷ xs) ps =
     split (λ v. cond v (Some x) (find n xs) ≡ Some o → pour (cond v (less size x ++ xs) (x ∷ cut_from n size xs)) ps ≡ pour (less size o) (pour (cond v xs (x ∷ without n xs)) ps)) (eqb x.number n)
     (λ e here. pour_append (less size x) xs ps ∙ ap (λ y. pour (less size y) (pour xs ps)) (same_some x o here))

@@ -1,5 +1,5 @@
 -- The first by rank of orders in any order. Assumes nothing.
-use Rattle.std.proofs.Common.{◌≡◌, ℕ, Bool, true, false, cond, not, ◌&&◌, ◌||◌, eqb, ltb, leb, List, [], ◌∷◌, ◌++◌, Some, None, Option, sym, refl, ap, ◌∙◌, arith}
+use Rattle.std.proofs.Common.{◌≡◌, Bool, true, false, cond, not, ◌&&◌, leb, List, [], ◌∷◌, ◌++◌, Some, None, Option, sym, refl, ap, ◌∙◌, arith}
 use Rattle.std.proofs.lemmas.Bool.{cond-true, cond-false, cond_both, and_parts}
 use Rattle.std.proofs.lemmas.Bool.Decides.{nat_tests}
 use Rattle.terms.specs.Side.{other_side}
@@ -8,39 +8,34 @@ use Rattle.terms.specs.declared.side.Side.TheVariants.{Buy, Sell}
 use Rattle.book.specs.declared.order.Order.{Order}
 use Rattle.book.specs.Ladders.{by_force, ahead, all_ahead, ranked, all_of_side, distinct, pour, end_in_force}
 use Rattle.book.specs.Orders.{find, place, same_side, in_force, firster, first_of}
-use Rattle.book.specs.Ranks.{limited, earlier, by_limit, by_side, order_before}
+use Rattle.rank.specs.PriceTime as PriceTime
+use Rattle.rank.specs.Sides.{by_side}
+use Rattle.rank.specs.declared.price_time.PriceTime.{PriceTime}
+use Rattle.book.specs.Ranks.{limited, key, by_limit, ranks_before, order_before}
 use Rattle.book.specs.OrderRank.{before_decided}
 use Rattle.book.proofs.Placed.{split, find_past, find_pour, distinct_parts}
 
 -- what p is before, any q that p is not before is before too
-lower_weak : (a b c : ℕ) → ltb a c ≡ true → ltb a b ≡ false → ltb b c ≡ true
-lower_weak a b c h k = grind (arith, nat_tests)
+earlier_weak : (p q r : PriceTime) → PriceTime.earlier p r ≡ true → PriceTime.earlier p q ≡ false → PriceTime.earlier q r ≡ true
+earlier_weak p q r h k = grind (arith, nat_tests)
 
-rising_weak : (a b c : ℕ) (x y z : Bool) → (x ≡ true → y ≡ false → z ≡ true) → (ltb a c || (eqb a c && x)) ≡ true → (ltb a b || (eqb a b && y)) ≡ false → (ltb b c || (eqb b c && z)) ≡ true
-rising_weak a b c x y z next h k = grind (arith, nat_tests)
-
-falling_weak : (a b c : ℕ) (x y z : Bool) → (x ≡ true → y ≡ false → z ≡ true) → (ltb c a || (eqb a c && x)) ≡ true → (ltb b a || (eqb a b && y)) ≡ false → (ltb c b || (eqb b c && z)) ≡ true
-falling_weak a b c x y z next h k = grind (arith, nat_tests)
-
-earlier_weak : (p q r : Order) → earlier p r ≡ true → earlier p q ≡ false → earlier q r ≡ true
-earlier_weak p q r = rising_weak p.moment q.moment r.moment _ _ _ (lower_weak p.number q.number r.number)
+price_weak : (s : Side) (p q r : PriceTime) → PriceTime.ranks_before s p r ≡ true → PriceTime.ranks_before s p q ≡ false → PriceTime.ranks_before s q r ≡ true
+price_weak Buy p q r h k = grind (arith, nat_tests)
+price_weak Sell p q r h k = grind (arith, nat_tests)
 
 by_limit_weak : (a b c : Bool) (s : Side) (p q r : Order) → by_limit a c s p r ≡ true → by_limit a b s p q ≡ false → by_limit b c s q r ≡ true
-by_limit_weak false false false s p q r h k = earlier_weak p q r h k
+by_limit_weak false false false s p q r h k = earlier_weak (key p) (key q) (key r) h k
 by_limit_weak false false true s p q r h k = refl
-by_limit_weak false true false s p q r h k = cc
-by_limit_weak false true true s p q r h k = cc
+by_limit_weak false true c s p q r h k = cc
 by_limit_weak true false false s p q r h k = cc
 by_limit_weak true false true s p q r h k = refl
 by_limit_weak true true false s p q r h k = h
-by_limit_weak true true true Buy p q r h k = falling_weak p.price q.price r.price _ _ _ (earlier_weak p q r) h k
-by_limit_weak true true true Sell p q r h k = rising_weak p.price q.price r.price _ _ _ (earlier_weak p q r) h k
+by_limit_weak true true true s p q r h k = price_weak s (key p) (key q) (key r) h k
 
-by_side_weak : (s t u : Side) (p q r : Order) → by_side s u p r ≡ true → by_side s t p q ≡ false → by_side t u q r ≡ true
+by_side_weak : (s t u : Side) (p q r : Order) → by_side ranks_before s u p r ≡ true → by_side ranks_before s t p q ≡ false → by_side ranks_before t u q r ≡ true
 by_side_weak Buy Buy Buy p q r h k = by_limit_weak (limited p.kind) (limited q.kind) (limited r.kind) Buy p q r h k
 by_side_weak Buy Buy Sell p q r h k = refl
-by_side_weak Buy Sell Buy p q r h k = cc
-by_side_weak Buy Sell Sell p q r h k = cc
+by_side_weak Buy Sell u p q r h k = cc
 by_side_weak Sell Buy Buy p q r h k = cc
 by_side_weak Sell Buy Sell p q r h k = refl
 by_side_weak Sell Sell Buy p q r h k = h

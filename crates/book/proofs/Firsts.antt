@@ -1,19 +1,20 @@
 -- What the first in force of a side tells of the others. Assumes nothing.
 use Rattle.std.proofs.Common.{◌≡◌, ℕ, suc, ◌<◌, ◌≤◌, true, false, not, ◌&&◌, leb, ◌⊎◌, List, [], ◌∷◌, Some, None, Option, sym, refl, ap, ◌∙◌, subst, inl, inr, ⊎_elim, arith}
 use Rattle.std.proofs.lemmas.Bool.{eq-eqb, cond-true, cond-false, cases_Bool, cases_eq, and_parts, leb-true}
+use Rattle.std.proofs.lemmas.Option.{none-some}
 use Rattle.terms.specs.declared.side.Side.{Side}
 use Rattle.book.specs.declared.order.Order.{Order}
 use Rattle.book.specs.Orders.{ascends, find, same_side, in_force, firster, first_of, Leads, FirstFacts, First}
 use Rattle.book.specs.Ranks.{order_before}
 use Rattle.book.specs.OrderRank.{before_onward, before_decided}
-use Rattle.book.proofs.Placed.{find_skip, some_none}
+use Rattle.book.proofs.Placed.{find_skip, found_or_not}
 
 find_here : (n : ℕ) (p : Order) (ps : List Order) → p.number ≡ n → find n (p ∷ ps) ≡ Some p
 find_here n p ps same = cond-true _ _ _ (eq-eqb p.number n same)
 
 -- no number of an ascending list is below its start
 above : (k n : ℕ) (orders : List Order) (p : Order) → ascends k orders ≡ true → find n orders ≡ Some p → (k ≤ n) × (p.number ≡ n)
-above k n [] p up here = absurd (some_none p (sym here))
+above k n [] p up here = cc
 above k n (o ∷ os) p up here =
     let parts = and_parts (leb k o.number) _ up in
     let low = leb-true k o.number parts.0 in
@@ -27,7 +28,7 @@ itself : (side : Side) (o p : Order) → in_force side o ≡ Some p → o ≡ p
 itself side o p is =
     ⊎_elim
     (λ yes. let z : Some o ≡ Some p = sym (cond-true _ _ _ yes) ∙ is in cc)
-    (λ none. absurd (some_none p (sym (sym (cond-false _ _ _ none) ∙ is))))
+    (λ none. absurd (none-some p (sym (cond-false _ _ _ none) ∙ is)))
     (cases_Bool (same_side o.side side && not o.waiting))
 
 force_cases : (side : Side) (o : Order) → (in_force side o ≡ Some o) ⊎ (in_force side o ≡ None)
@@ -36,10 +37,6 @@ force_cases side o =
     (λ yes. inl (cond-true _ _ _ yes))
     (λ none. inr (cond-false _ _ _ none))
     (cases_Bool (same_side o.side side && not o.waiting))
-
-first_cases : (f : Option Order) → ((o : Order) × (f ≡ Some o)) ⊎ (f ≡ None)
-first_cases None = inr refl
-first_cases (Some o) = inl (o, refl)
 
 -- one order more in front
 module _ (side : Side) (k : ℕ) (a : Order) (os : List Order) (low : leb k a.number ≡ true) (up : ascends (suc a.number) os ≡ true) (facts : FirstFacts side os (first_of side os)) where
@@ -68,7 +65,7 @@ module _ (side : Side) (k : ℕ) (a : Order) (os : List Order) (low : leb k a.nu
         up = l.up;
         ahead = λ n p here inf other.
             ⊎_elim
-            (λ same. absurd (some_none p (sym inf ∙ sym (ap (in_force side) same) ∙ down)))
+            (λ same. absurd (none-some p (sym down ∙ ap (in_force side) same ∙ inf)))
             (λ rest. l.ahead n p rest.0 inf other)
             (either n p here);
       }
@@ -80,7 +77,7 @@ module _ (side : Side) (k : ℕ) (a : Order) (os : List Order) (low : leb k a.nu
     ahead = λ n p here inf other.
         ⊎_elim
         (λ same. absurd (other (sym (ap (λ q. q.number) same))))
-        (λ rest. absurd (some_none p (sym inf ∙ facts.nothing none n p rest.0)))
+        (λ rest. absurd (none-some p (sym (facts.nothing none n p rest.0) ∙ inf)))
         (either n p here);
   }
 
@@ -129,7 +126,7 @@ module _ (side : Side) (k : ℕ) (a : Order) (os : List Order) (low : leb k a.nu
       (λ second. answers a (ap (λ x. firster x (first_of side os)) top ∙ ap (firster (Some a)) rest.1 ∙ cond-false _ _ _ second) (holds top rest.0 rest.1 second))
       (cases_Bool (order_before rest.0 a)))
       (λ none. answers a (ap (λ x. firster x (first_of side os)) top ∙ ap (firster (Some a)) none) (alone top none))
-      (first_cases (first_of side os)))
+      (found_or_not (first_of side os)))
       (λ down.
       ⊎_elim
       (λ rest. answers rest.0 (ap (λ x. firster x (first_of side os)) down ∙ rest.1) (stays down rest.0 rest.1))
@@ -140,24 +137,24 @@ module _ (side : Side) (k : ℕ) (a : Order) (os : List Order) (low : leb k a.nu
             (λ rest. facts.nothing none n p rest.0)
             (either n p here);
         vacant = λ _. ap (λ x. firster x (first_of side os)) down ∙ none;
-        leads = λ o is. absurd (some_none o (sym is ∙ ap (λ x. firster x (first_of side os)) down ∙ none));
+        leads = λ o is. absurd (none-some o (sym (ap (λ x. firster x (first_of side os)) down ∙ none) ∙ is));
       })
-      (first_cases (first_of side os)))
+      (found_or_not (first_of side os)))
       (force_cases side a)
     where
       -- a first that leads is the answer
       answers : (o : Order) → first_of side (a ∷ os) ≡ Some o → Leads side (a ∷ os) o → FirstFacts side (a ∷ os) (first_of side (a ∷ os))
       answers o is l = record {
-        nothing = λ none n p here. absurd (some_none o (sym is ∙ none));
-        vacant = λ empty. absurd (some_none o (sym l.up ∙ empty o.number o l.live));
+        nothing = λ none n p here. absurd (none-some o (sym none ∙ is));
+        vacant = λ empty. absurd (none-some o (sym (empty o.number o l.live) ∙ l.up));
         leads = λ q said. subst (Leads side (a ∷ os)) (let z : Some o ≡ Some q = sym is ∙ said in cc) l;
       }
 
 first_facts : (side : Side) (k : ℕ) (orders : List Order) → ascends k orders ≡ true → FirstFacts side orders (first_of side orders)
 first_facts side k [] up = record {
-  nothing = λ _ n p here. absurd (some_none p (sym here));
+  nothing = λ _ n p here. cc;
   vacant = λ _. refl;
-  leads = λ o is. absurd (some_none o (sym is));
+  leads = λ o is. cc;
 }
 first_facts side k (a ∷ os) up =
     let parts = and_parts (leb k a.number) _ up in

@@ -5,11 +5,11 @@ use Rattle.terms.specs.Side.{other_side}
 use Rattle.terms.specs.declared.side.Side.{Side}
 use Rattle.terms.specs.declared.side.Side.TheVariants.{Buy, Sell}
 use Rattle.book.specs.declared.order.Order.{Order}
-use Rattle.book.specs.Ladders.{all_of_side, enter, without, pour, lesser, lowest_in, end_in_force, Laddered, poured}
-use Rattle.book.specs.Orders.{Sound, ascends, all_sized, same_side, find, place, woken_at, cut_from, wake_in, first_of, lowest_by}
-use Rattle.book.proofs.Changing.{all_pour, all_enter, all_without, all_cut, all_found, ranked_enter, ranked_without, ranked_cut, distinct_enter, distinct_without, distinct_cut, found_number, gone_without, length_enter, length_without, length_cut, pour_enter, pour_without, pour_cut}
+use Rattle.book.specs.Ladders.{ranked, all_of_side, enter, without, pour, lower_of, lowest_in, end_in_force, Laddered, poured}
+use Rattle.book.specs.Orders.{Sound, ascends, same_side, find, place, woken_at, cut_from, wake_in, first_of, lowest_by}
+use Rattle.book.proofs.Changing.{all_pour, all_enter, all_without, all_cut, all_found, distinct_enter, distinct_without, distinct_cut, found_number, gone_without, length_enter, length_without, length_cut, pour_enter, pour_without, pour_cut}
 use Rattle.book.proofs.FirstOf.{first_pour, first_append}
-use Rattle.book.proofs.Placed.{pour_append, find_pour, ascends_pour, length_pour, lowest_pour, lowest_append, cut_place, wake_place, find_append_none, find_append_parts, find_append_some, distinct_swap, pour_swap}
+use Rattle.book.proofs.Placed.{pour_append, find_pour, ascends_pour, length_pour, lowest_pour, lowest_append, reduce_lowest, cut_place, wake_place, find_append_parts, find_append_some, distinct_swap, pour_swap}
 
 same_self : (s : Side) → same_side s s ≡ true
 same_self Buy = refl
@@ -23,8 +23,6 @@ other_back Sell os all = all
 pub other_way : {side : Side} {own others : List Order} → Laddered side own others → Laddered (other_side side) others own
 other_way {side} {own} {others} l = record {
   apart = distinct_swap own others l.apart;
-  own_ranked = l.others_ranked;
-  others_ranked = l.own_ranked;
   own_side = l.others_side;
   others_side = other_back side own l.own_side;
   own_sized = l.others_sized;
@@ -42,7 +40,7 @@ module _ {side : Side} {own others : List Order} (l : Laddered side own others) 
   pub sound : Sound 256 (poured own others)
   sound = record {
     ascending = ap (λ os. ascends 0 os) (sym whole) ∙ ascends_pour (own ++ others) l.apart;
-    sized = all_pour (λ o. ltb 0 o.left) all_sized (λ _ _. refl) own (pour others []) l.own_sized (all_pour (λ o. ltb 0 o.left) all_sized (λ _ _. refl) others [] l.others_sized refl);
+    sized = all_pour (λ o. ltb 0 o.left) own (pour others []) l.own_sized (all_pour (λ o. ltb 0 o.left) others [] l.others_sized refl);
     few = omega (arith, length_pour own (pour others []), length_pour others []);
     small = omega arith;
   }
@@ -56,14 +54,15 @@ module _ {side : Side} {own others : List Order} (l : Laddered side own others) 
   pub find_own : (number : ℕ) (o : Order) → find number own ≡ Some o → find number (poured own others) ≡ Some o
   find_own number o here = find_poured number ∙ find_append_some number o own others here
 
-  pub find_neither : (number : ℕ) → find number own ≡ None → find number others ≡ None → find number (poured own others) ≡ None
-  find_neither number here there = find_poured number ∙ find_append_none number own others here there
+  pub lowest_poured : (test : Order → Bool) → lowest_by test (poured own others) ≡ lower_of (lowest_in test own) (lowest_in test others)
+  lowest_poured test =
+      ap (lowest_by test) (sym whole)
+      ∙ lowest_pour test (own ++ others) l.apart
+      ∙ lowest_append test own others
+      ∙ sym (λ i. lower_of (reduce_lowest test own i) (reduce_lowest test others i))
 
-  pub lowest_poured : (test : Order → Bool) → lowest_by test (poured own others) ≡ lesser (lowest_in test own) (lowest_in test others)
-  lowest_poured test = ap (lowest_by test) (sym whole) ∙ lowest_pour test (own ++ others) l.apart ∙ lowest_append test own others
-
-  pub first_poured : first_of side (poured own others) ≡ end_in_force own
-  first_poured = ap (first_of side) (sym whole) ∙ first_pour side (own ++ others) l.apart ∙ first_append side own others l.own_ranked l.own_side l.others_side
+  pub first_poured : ranked own ≡ true → first_of side (poured own others) ≡ end_in_force own
+  first_poured rank = ap (first_of side) (sym whole) ∙ first_pour side (own ++ others) l.apart ∙ first_append side own others rank l.own_side l.others_side
 
   -- adding
   pub enter_poured : (o : Order) → find o.number (poured own others) ≡ None → poured (enter o own) others ≡ place o (poured own others)
@@ -74,11 +73,9 @@ module _ {side : Side} {own others : List Order} (l : Laddered side own others) 
       let none : find o.number (own ++ others) ≡ None = sym (find_poured o.number) ∙ new in
       record {
         apart = distinct_enter o own others none l.apart;
-        own_ranked = ranked_enter o own (find_append_parts o.number own others none).0 l.own_ranked;
-        others_ranked = l.others_ranked;
-        own_side = all_enter (λ p. same_side p.side side) (all_of_side side) (λ _ _. refl) o own (ap (λ s. same_side s side) of_side ∙ same_self side) l.own_side;
+        own_side = all_enter (λ p. same_side p.side side) o own (ap (λ s. same_side s side) of_side ∙ same_self side) l.own_side;
         others_side = l.others_side;
-        own_sized = all_enter (λ p. ltb 0 p.left) all_sized (λ _ _. refl) o own (lt-ltb 0 o.left some) l.own_sized;
+        own_sized = all_enter (λ p. ltb 0 p.left) o own (lt-ltb 0 o.left some) l.own_sized;
         others_sized = l.others_sized;
         few = omega (arith, length_enter o own);
       }
@@ -97,11 +94,9 @@ module _ {side : Side} {own others : List Order} (l : Laddered side own others) 
   pub cut_laddered : (number size : ℕ) → Laddered side (cut_from number size own) others
   cut_laddered number size = record {
     apart = distinct_cut number size own others l.apart;
-    own_ranked = ranked_cut number size own l.own_ranked;
-    others_ranked = l.others_ranked;
-    own_side = all_cut (λ p. same_side p.side side) (all_of_side side) (λ _ _. refl) (λ p left some h. h) number size own l.own_side;
+    own_side = all_cut (λ p. same_side p.side side) (λ p left some h. h) number size own l.own_side;
     others_side = l.others_side;
-    own_sized = all_cut (λ p. ltb 0 p.left) all_sized (λ _ _. refl) (λ p left some h. lt-ltb 0 left some) number size own l.own_sized;
+    own_sized = all_cut (λ p. ltb 0 p.left) (λ p left some h. lt-ltb 0 left some) number size own l.own_sized;
     others_sized = l.others_sized;
     few = omega (arith, l.few, length_cut number size own);
   }
@@ -121,15 +116,13 @@ module _ {side : Side} {own others : List Order} (l : Laddered side own others) 
 
   pub wake_laddered : (number moment : ℕ) (o : Order) → find number own ≡ Some o → Laddered side (enter (woken_at moment o) (without number own)) others
   wake_laddered number moment o here =
-      let of_side = all_found (λ p. same_side p.side side) (all_of_side side) (λ _ _. refl) number o own l.own_side here in
-      let some = all_found (λ p. ltb 0 p.left) all_sized (λ _ _. refl) number o own l.own_sized here in
+      let of_side = all_found (λ p. same_side p.side side) number o own l.own_side here in
+      let some = all_found (λ p. ltb 0 p.left) number o own l.own_sized here in
       record {
         apart = distinct_enter (woken_at moment o) (without number own) others (gone number o here) (distinct_without number own others l.apart);
-        own_ranked = ranked_enter (woken_at moment o) (without number own) (apart_from number o here) (ranked_without number own l.own_ranked);
-        others_ranked = l.others_ranked;
-        own_side = all_enter (λ p. same_side p.side side) (all_of_side side) (λ _ _. refl) (woken_at moment o) (without number own) of_side (all_without (λ p. same_side p.side side) (all_of_side side) (λ _ _. refl) number own l.own_side);
+        own_side = all_enter (λ p. same_side p.side side) (woken_at moment o) (without number own) of_side (all_without (λ p. same_side p.side side) number own l.own_side);
         others_side = l.others_side;
-        own_sized = all_enter (λ p. ltb 0 p.left) all_sized (λ _ _. refl) (woken_at moment o) (without number own) some (all_without (λ p. ltb 0 p.left) all_sized (λ _ _. refl) number own l.own_sized);
+        own_sized = all_enter (λ p. ltb 0 p.left) (woken_at moment o) (without number own) some (all_without (λ p. ltb 0 p.left) number own l.own_sized);
         others_sized = l.others_sized;
         few = omega (arith, l.few, length_enter (woken_at moment o) (without number own), length_without number o own here);
       }

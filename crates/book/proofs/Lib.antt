@@ -7,5 +7,4 @@ pub mod Firsts
 pub mod Laddering
 pub mod Placed
 pub mod Places
-pub mod Shifts
-pub mod Tested
+pub mod Shelves

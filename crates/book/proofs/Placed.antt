@@ -1,9 +1,13 @@
 -- Orders put among others by number. Assumes nothing.
-use Rattle.std.proofs.Common.{◌≡◌, ℕ, suc, ◌+◌, ◌-◌, ◌<◌, ◌≤◌, Bool, true, false, cond, not, eqb, ltb, leb, List, [], ◌∷◌, ◌++◌, length, is_some, Some, None, Option, sym, refl, ap, ◌∙◌, append-nil, arith}
-use Rattle.std.proofs.lemmas.Bool.{cond-true, cond-false, cond_both, and_parts, and_from, eqb-false, eq-eqb, ne_eqb, leb-true, leb-false, le-leb, lt-leb}
+use Rattle.std.proofs.Common.{◌≡◌, ℕ, suc, ◌+◌, ◌-◌, ◌<◌, ◌≤◌, Bool, true, false, cond, not, ◌==◌, ◌⊎◌, inl, inr, eqb, ltb, leb, List, [], ◌∷◌, ◌++◌, length, is_some, Some, None, Option, sym, refl, ap, ◌∙◌, append-nil, min, map, filter, arith}
+use Rattle.std.proofs.lemmas.Bool.{cond-true, cond-false, cond_both, and_parts, and_from, eqb-false, eq-eqb, ne_eqb, leb-true, leb-false, le-leb}
+use Rattle.std.proofs.Math.Nat.{min-eq_left, min-eq_right}
 use Rattle.std.proofs.lemmas.Bool.Decides.{nat_tests}
+use Rattle.std.proofs.lemmas.List.Folds.{find-append}
+use Rattle.std.specs.List.{reduce}
+use Rattle.std.specs.Option.{option_or}
 use Rattle.book.specs.declared.order.Order.{Order}
-use Rattle.book.specs.Ladders.{distinct, pour, lesser, lowest_in}
+use Rattle.book.specs.Ladders.{distinct, pour, lower_of, lowest_in}
 use Rattle.book.specs.Orders.{ascends, find, place, less, with_left, woken_at, cut_from, wake_in, lowest_by}
 
 -- both cases of a test, with what each says
@@ -11,8 +15,9 @@ pub split : (P : Bool → Type 0) (b : Bool) → (b ≡ true → P true) → (b 
 split P true hit miss = hit refl
 split P false hit miss = miss refl
 
-pub some_none : (o : Order) → Some o ≡ None → ⊥
-some_none o h = let z : ◌≡◌ {A = ℕ} 0 1 = cc in omega arith
+pub found_or_not : (f : Option Order) → ((o : Order) × (f ≡ Some o)) ⊎ (f ≡ None)
+found_or_not None = inr refl
+found_or_not (Some o) = inl (o, refl)
 
 none_there : (f : Option Order) → not (is_some f) ≡ true → f ≡ None
 none_there None h = refl
@@ -30,7 +35,7 @@ find_skip n p ps other = cond-false (eqb p.number n) _ _ (ne_eqb _ _ other)
 pub find_past : (n : ℕ) (p : Order) (ps : List Order) → find n (p ∷ ps) ≡ None → (p.number ≡ n → ⊥) × (find n ps ≡ None)
 find_past n p ps =
     split (λ v. cond v (Some p) (find n ps) ≡ None → (p.number ≡ n → ⊥) × (find n ps ≡ None)) (eqb p.number n)
-    (λ hit h. absurd (some_none p h))
+    (λ hit h. cc)
     (λ miss h. (eqb-false _ _ miss, h))
 
 -- two tests for different numbers
@@ -92,56 +97,73 @@ pub length_pour : (xs ps : List Order) → length (pour xs ps) ≡ length xs + l
 length_pour [] ps = omega arith
 length_pour (x ∷ xs) ps = length_place x (pour xs ps) ∙ ap suc (length_pour xs ps) ∙ omega arith
 
+-- the lowest number of those that pass a test, one order after another
+abbrev pub least : (Order → Bool) → List Order → Option ℕ
+least test [] = None
+least test (o ∷ os) = lower_of (cond (test o) (Some o.number) None) (least test os)
+
 -- the lowest that passes a test
-above : (a k : ℕ) (test : Order → Bool) (ps : List Order) → a ≤ k → ascends k ps ≡ true → lesser (Some a) (lowest_by test ps) ≡ Some a
+above : (a k : ℕ) (test : Order → Bool) (ps : List Order) → a ≤ k → ascends k ps ≡ true → lower_of (Some a) (lowest_by test ps) ≡ Some a
 above a k test [] low up = refl
 above a k test (p ∷ ps) low up =
     let parts = and_parts (leb k p.number) (ascends (suc p.number) ps) up in
     let far = leb-true k p.number parts.0 in
-    cond_both (test p) (Some p.number) (lowest_by test ps) (λ f. lesser (Some a) f ≡ Some a)
-    (λ e. cond-true (leb a p.number) _ _ (le-leb _ _ (omega arith)))
+    cond_both (test p) (Some p.number) (lowest_by test ps) (λ f. lower_of (Some a) f ≡ Some a)
+    (λ e. ap Some (min-eq_left (omega (arith, low, far))))
     (λ e. above a (suc p.number) test ps (omega arith) parts.1)
 
-lesser_later : (b : Bool) (n m : ℕ) → m < n → Some m ≡ lesser (cond b (Some n) None) (Some m)
-lesser_later true n m h = sym (cond-false (leb n m) _ _ (lt-leb _ _ h))
-lesser_later false n m h = refl
+later_lower : (b : Bool) (n m : ℕ) → m < n → Some m ≡ lower_of (cond b (Some n) None) (Some m)
+later_lower true n m h = ap Some (sym (min-eq_right (omega (arith, h))))
+later_lower false n m h = refl
 
-alone : (b : Bool) (n : ℕ) → cond b (Some n) None ≡ lesser (cond b (Some n) None) None
+alone : (b : Bool) (n : ℕ) → cond b (Some n) None ≡ lower_of (cond b (Some n) None) None
 alone true n = refl
 alone false n = refl
 
-lowest_place : (test : Order → Bool) (k : ℕ) (o : Order) (ps : List Order) → ascends k ps ≡ true → lowest_by test (place o ps) ≡ lesser (cond (test o) (Some o.number) None) (lowest_by test ps)
+lowest_place : (test : Order → Bool) (k : ℕ) (o : Order) (ps : List Order) → ascends k ps ≡ true → lowest_by test (place o ps) ≡ lower_of (cond (test o) (Some o.number) None) (lowest_by test ps)
 lowest_place test k o [] up = alone (test o) o.number
 lowest_place test k o (p ∷ ps) up =
     let parts = and_parts (leb k p.number) (ascends (suc p.number) ps) up in
-    cond_both (leb o.number p.number) (o ∷ p ∷ ps) (p ∷ place o ps) (λ l. lowest_by test l ≡ lesser (cond (test o) (Some o.number) None) (lowest_by test (p ∷ ps)))
-    (λ e. elim (test o) as (λ v. cond v (Some o.number) (lowest_by test (p ∷ ps)) ≡ lesser (cond v (Some o.number) None) (lowest_by test (p ∷ ps))) [
+    cond_both (leb o.number p.number) (o ∷ p ∷ ps) (p ∷ place o ps) (λ l. lowest_by test l ≡ lower_of (cond (test o) (Some o.number) None) (lowest_by test (p ∷ ps)))
+    (λ e. elim (test o) as (λ v. cond v (Some o.number) (lowest_by test (p ∷ ps)) ≡ lower_of (cond v (Some o.number) None) (lowest_by test (p ∷ ps))) [
       | true ↦ sym (above o.number p.number test (p ∷ ps) (leb-true _ _ e) (and_from _ _ (le-leb _ _ (omega arith)) parts.1))
       | false ↦ refl
     ])
-    (λ e. elim (test p) as (λ v. cond v (Some p.number) (lowest_by test (place o ps)) ≡ lesser (cond (test o) (Some o.number) None) (cond v (Some p.number) (lowest_by test ps))) [
-      | true ↦ lesser_later (test o) o.number p.number (leb-false _ _ e)
+    (λ e. elim (test p) as (λ v. cond v (Some p.number) (lowest_by test (place o ps)) ≡ lower_of (cond (test o) (Some o.number) None) (cond v (Some p.number) (lowest_by test ps))) [
+      | true ↦ later_lower (test o) o.number p.number (leb-false _ _ e)
       | false ↦ lowest_place test (suc p.number) o ps parts.1
     ])
 
-pub lowest_pour : (test : Order → Bool) (xs : List Order) → distinct xs ≡ true → lowest_by test (pour xs []) ≡ lowest_in test xs
+pub lowest_pour : (test : Order → Bool) (xs : List Order) → distinct xs ≡ true → lowest_by test (pour xs []) ≡ least test xs
 lowest_pour test [] apart = refl
 lowest_pour test (x ∷ xs) apart =
     let parts = distinct_parts x xs apart in
-    lowest_place test 0 x (pour xs []) (ascends_pour xs parts.1) ∙ ap (lesser (cond (test x) (Some x.number) None)) (lowest_pour test xs parts.1)
+    lowest_place test 0 x (pour xs []) (ascends_pour xs parts.1) ∙ ap (lower_of (cond (test x) (Some x.number) None)) (lowest_pour test xs parts.1)
 
-pub lesser_assoc : (a b c : Option ℕ) → lesser a (lesser b c) ≡ lesser (lesser a b) c
-lesser_assoc None b c = refl
-lesser_assoc (Some a) None c = refl
-lesser_assoc (Some a) (Some b) None = elim (leb a b) as (λ v. cond v (Some a) (Some b) ≡ lesser (cond v (Some a) (Some b)) None) [ true ↦ refl | false ↦ refl ]
-lesser_assoc (Some a) (Some b) (Some c) =
-    split (λ v. lesser (Some a) (lesser (Some b) (Some c)) ≡ lesser (cond v (Some a) (Some b)) (Some c)) (leb a b)
-    (λ e. split (λ w. lesser (Some a) (cond w (Some b) (Some c)) ≡ cond (leb a c) (Some a) (Some c)) (leb b c) (λ f. grind (arith, nat_tests)) (λ f. refl))
-    (λ e. split (λ w. lesser (Some a) (cond w (Some b) (Some c)) ≡ cond w (Some b) (Some c)) (leb b c) (λ f. grind (arith, nat_tests)) (λ f. grind (arith, nat_tests)))
+pub lower_assoc : (a b c : Option ℕ) → lower_of a (lower_of b c) ≡ lower_of (lower_of a b) c
+lower_assoc None b c = refl
+lower_assoc (Some a) None c = refl
+lower_assoc (Some a) (Some b) None = refl
+lower_assoc (Some a) (Some b) (Some c) = ap Some (omega arith)
 
-pub lowest_append : (test : Order → Bool) (xs ys : List Order) → lowest_in test (xs ++ ys) ≡ lesser (lowest_in test xs) (lowest_in test ys)
+pub lowest_append : (test : Order → Bool) (xs ys : List Order) → least test (xs ++ ys) ≡ lower_of (least test xs) (least test ys)
 lowest_append test [] ys = refl
-lowest_append test (x ∷ xs) ys = ap (lesser (cond (test x) (Some x.number) None)) (lowest_append test xs ys) ∙ lesser_assoc (cond (test x) (Some x.number) None) _ _
+lowest_append test (x ∷ xs) ys = ap (lower_of (cond (test x) (Some x.number) None)) (lowest_append test xs ys) ∙ lower_assoc (cond (test x) (Some x.number) None) _ _
+
+reduce_more : (x : ℕ) (xs : List ℕ) → reduce min (x ∷ xs) ≡ lower_of (Some x) (reduce min xs)
+reduce_more x [] = refl
+reduce_more x (y ∷ ys) =
+    reduce_more (min x y) ys
+    ∙ sym (lower_assoc (Some x) (Some y) (reduce min ys))
+    ∙ ap (lower_of (Some x)) (sym (reduce_more y ys))
+
+pub reduce_lowest : (test : Order → Bool) (xs : List Order) → lowest_in test xs ≡ least test xs
+reduce_lowest test [] = refl
+reduce_lowest test (x ∷ xs) =
+    elim (test x) as (λ v. reduce min (map (λ o. o.number) (cond v (x ∷ filter test xs) (filter test xs))) ≡ lower_of (cond v (Some x.number) None) (least test xs)) [
+      | true ↦ reduce_more x.number (map (λ o. o.number) (filter test xs)) ∙ ap (lower_of (Some x.number)) (reduce_lowest test xs)
+      | false ↦ reduce_lowest test xs
+    ]
 
 -- a change of the order placed
 less_first : (size : ℕ) (o p : Order) (ps : List Order) → leb o.number p.number ≡ true → less size o ++ p ∷ ps ≡ pour (less size o) (p ∷ ps)
@@ -182,24 +204,21 @@ wake_place n moment o (p ∷ ps) is none =
     (λ e. cond-false (eqb p.number n) _ _ (ne_eqb _ _ parts.0) ∙ ap (λ l. p ∷ l) (wake_place n moment o ps is parts.1))
 
 -- what is found in two lists
+found_in : (n : ℕ) (xs ys : List Order) → find n (xs ++ ys) ≡ option_or (find n xs) (find n ys)
+found_in n = find-append (λ o. o.number == n)
+
 pub find_append_none : (n : ℕ) (xs ys : List Order) → find n xs ≡ None → find n ys ≡ None → find n (xs ++ ys) ≡ None
-find_append_none n [] ys here there = there
-find_append_none n (x ∷ xs) ys here there =
-    let parts = find_past n x xs here in
-    find_skip n x (xs ++ ys) parts.0 ∙ find_append_none n xs ys parts.1 there
+find_append_none n xs ys here there = found_in n xs ys ∙ ap (λ f. option_or f (find n ys)) here ∙ there
 
 pub find_append_parts : (n : ℕ) (xs ys : List Order) → find n (xs ++ ys) ≡ None → (find n xs ≡ None) × (find n ys ≡ None)
-find_append_parts n [] ys none = (refl, none)
-find_append_parts n (x ∷ xs) ys none =
-    let parts = find_past n x (xs ++ ys) none in
-    let rest = find_append_parts n xs ys parts.1 in
-    (find_skip n x xs parts.0 ∙ rest.0, rest.1)
+find_append_parts n xs ys none = neither (find n xs) (sym (found_in n xs ys) ∙ none)
+  where
+    neither : (f : Option Order) → option_or f (find n ys) ≡ None → (f ≡ None) × (find n ys ≡ None)
+    neither None h = (refl, h)
+    neither (Some o) h = cc
 
 pub find_append_some : (n : ℕ) (o : Order) (xs ys : List Order) → find n xs ≡ Some o → find n (xs ++ ys) ≡ Some o
-find_append_some n o [] ys = λ h. cc
-find_append_some n o (x ∷ xs) ys =
-    elim (eqb x.number n) as (λ v. cond v (Some x) (find n xs) ≡ Some o → cond v (Some x) (find n (xs ++ ys)) ≡ Some o)
-    [ true ↦ λ h. h | false ↦ λ h. find_append_some n o xs ys h ]
+find_append_some n o xs ys here = found_in n xs ys ∙ ap (λ f. option_or f (find n ys)) here
 
 -- an order among the others
 pub pour_middle : (o : Order) (xs ys ps : List Order) → find o.number xs ≡ None → pour (xs ++ o ∷ ys) ps ≡ place o (pour (xs ++ ys) ps)

@@ -1,8 +1,9 @@
 -- One side's orders in rank order, the first at the end, and the book that two sides make.
-use Rattle.std.specs.Prelude.{◌≡◌, ℕ, ◌+◌, ◌≤◌, Bool, true, false, cond, not, ◌&&◌, List, [], ◌∷◌, ◌++◌, length, is_some, Some, None, Option, ◌==◌, nat_le}
+use Rattle.std.specs.Prelude.{◌≡◌, ℕ, suc, ◌+◌, ◌<◌, ◌≤◌, Bool, true, false, cond, not, ◌&&◌, List, [], ◌∷◌, ◌++◌, length, take, drop, map, filter, min, is_some, Some, None, Option, ◌==◌}
+use Rattle.std.specs.List.{list_all, reduce, remove}
 use Rattle.terms.specs.Side.{other_side}
 use Rattle.terms.specs.declared.side.Side.{Side}
-use Rattle.book.specs.Orders.{find, place, all_sized, same_side}
+use Rattle.book.specs.Orders.{find, place, all_sized, same_side, less, cut_from, woken_at}
 use Rattle.book.specs.Ranks.{order_before}
 use Rattle.book.specs.declared.order.Order.{Order}
 
@@ -18,16 +19,14 @@ ahead o p = by_force o.waiting p.waiting o p
 
 -- each of the orders is ahead of o
 abbrev pub all_ahead : Order → List Order → Bool
-all_ahead o [] = true
-all_ahead o (p ∷ ps) = ahead p o && all_ahead o ps
+all_ahead o = list_all (λ p. ahead p o)
 
 abbrev pub ranked : List Order → Bool
 ranked [] = true
 ranked (o ∷ os) = all_ahead o os && ranked os
 
 abbrev pub all_of_side : Side → List Order → Bool
-all_of_side side [] = true
-all_of_side side (o ∷ os) = same_side o.side side && all_of_side side os
+all_of_side side = list_all (λ o. same_side o.side side)
 
 -- no number stands twice
 abbrev pub distinct : List Order → Bool
@@ -44,21 +43,35 @@ abbrev pub without : ℕ → List Order → List Order
 without number [] = []
 without number (o ∷ os) = cond (o.number == number) os (o ∷ without number os)
 
+-- the order of a number stands at a place, and what taking it out or cutting it makes of the list
+pub record Stands (number : ℕ) (orders : List Order) (place : ℕ) (o : Order) : Type 0 where
+  pub within : place < length orders
+  pub here : find number orders ≡ Some o
+  pub out : without number orders ≡ remove orders place
+  pub cut : (size : ℕ) → cut_from number size orders ≡ take place orders ++ (less size o ++ drop (suc place) orders)
+
+-- a waiting order of a number wakes, and takes its new place by rank
+abbrev pub wake_found : ℕ → ℕ → List Order → Option Order → List Order
+wake_found number moment orders None = orders
+wake_found number moment orders (Some o) = cond o.waiting (enter (woken_at moment o) (without number orders)) orders
+
+abbrev pub wake_ranked : ℕ → ℕ → List Order → List Order
+wake_ranked number moment orders = wake_found number moment orders (find number orders)
+
 -- each order of the first list put among the others by number
 abbrev pub pour : List Order → List Order → List Order
 pour [] others = others
 pour (o ∷ os) others = place o (pour os others)
 
 -- the lower of two numbers, each if present
-abbrev pub lesser : Option ℕ → Option ℕ → Option ℕ
-lesser None other = other
-lesser (Some a) None = Some a
-lesser (Some a) (Some b) = cond (nat_le a b) (Some a) (Some b)
+abbrev pub lower_of : Option ℕ → Option ℕ → Option ℕ
+lower_of None other = other
+lower_of (Some a) None = Some a
+lower_of (Some a) (Some b) = Some (min a b)
 
 -- the lowest number of those that pass a test, in any order
 abbrev pub lowest_in : (Order → Bool) → List Order → Option ℕ
-lowest_in test [] = None
-lowest_in test (o ∷ os) = lesser (cond (test o) (Some o.number) None) (lowest_in test os)
+lowest_in test orders = reduce min (map (λ o. o.number) (filter test orders))
 
 -- the order at the end, if it is in force
 abbrev pub end_in_force : List Order → Option Order
@@ -69,19 +82,11 @@ end_in_force (o ∷ p ∷ ps) = end_in_force (p ∷ ps)
 -- two sides that make a book: `own` are the orders of one side and `others` those of the other
 pub record Laddered (side : Side) (own others : List Order) : Type 0 where
   pub apart : distinct (own ++ others) ≡ true
-  pub own_ranked : ranked own ≡ true
-  pub others_ranked : ranked others ≡ true
   pub own_side : all_of_side side own ≡ true
   pub others_side : all_of_side (other_side side) others ≡ true
   pub own_sized : all_sized own ≡ true
   pub others_sized : all_sized others ≡ true
   pub few : length own + length others ≤ 256
-
--- the same as one test
-unfoldable pub well_laddered : Side → List Order → List Order → Bool
-well_laddered side own others =
-    distinct (own ++ others)
-    && (ranked own && (ranked others && (all_of_side side own && (all_of_side (other_side side) others && (all_sized own && (all_sized others && nat_le (length own + length others) 256))))))
 
 -- the book that they make
 abbrev pub poured : List Order → List Order → List Order

@@ -1,6 +1,6 @@
 pub mod Ladders
 pub mod Orders
 pub mod Ranks
-pub mod Shelves
+pub mod Refusals
 pub mod Sorted
 pub mod OrderRank

@@ -1,9 +1,15 @@
 -- What a book means: the live orders by number, and what each change makes of them.
 use Rattle.std.specs.Prelude.{◌≡◌, ℕ, suc, ◌-◌, ◌≤◌, Bool, true, false, cond, not, ◌&&◌, List, [], ◌∷◌, ◌++◌, length, is_some, Some, None, Option, ◌==◌, ◌≢◌, nat_le, nat_lt}
+use Rattle.std.specs.List.{find as first_passing, list_all}
 use Rattle.terms.specs.declared.side.Side.{Side}
 use Rattle.terms.specs.declared.side.Side.TheVariants.{Buy, Sell}
 use Rattle.book.specs.Ranks.{order_before}
+use Rattle.book.specs.declared.order.Kind.TheVariants.{Limit}
 use Rattle.book.specs.declared.order.Order.{Order}
+
+-- what stands where no order does
+abbrev pub no_order : Order
+no_order = record { number = 0; owner = 0; kind = Limit; side = Buy; price = 0; trigger = 0; left = 0; moment = 0; mate = 0; waiting = false }
 
 -- numbers from k on, each higher than the one before
 abbrev pub ascends : ℕ → List Order → Bool
@@ -12,8 +18,7 @@ ascends k (o ∷ os) = nat_le k o.number && ascends (suc o.number) os
 
 -- every order has a size left
 abbrev pub all_sized : List Order → Bool
-all_sized [] = true
-all_sized (o ∷ os) = nat_lt 0 o.left && all_sized os
+all_sized = list_all (λ o. nat_lt 0 o.left)
 
 -- what holds of every book
 pub record Sound (capacity : ℕ) (orders : List Order) : Type 0 where
@@ -22,9 +27,9 @@ pub record Sound (capacity : ℕ) (orders : List Order) : Type 0 where
   pub few : length orders ≤ capacity
   pub small : capacity ≤ 256
 
+-- the order of a number
 abbrev pub find : ℕ → List Order → Option Order
-find number [] = None
-find number (o ∷ os) = cond (o.number == number) (Some o) (find number os)
+find number orders = first_passing (λ o. o.number == number) orders
 
 -- among the others by number
 abbrev pub place : Order → List Order → List Order

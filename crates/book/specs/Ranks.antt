@@ -1,8 +1,9 @@
 -- The rank of orders.
-use Rattle.std.specs.Prelude.{ℕ, Bool, true, false, ◌&&◌, ◌||◌, ◌==◌, nat_lt}
-use Rattle.terms.specs.Side.{better_price}
+use Rattle.std.specs.Prelude.{ℕ, Bool, true, false}
 use Rattle.terms.specs.declared.side.Side.{Side}
-use Rattle.terms.specs.declared.side.Side.TheVariants.{Buy, Sell}
+use Rattle.rank.specs.PriceTime as PriceTime
+use Rattle.rank.specs.Sides.{by_side}
+use Rattle.rank.specs.declared.price_time.PriceTime.{PriceTime}
 use Rattle.book.specs.declared.order.Kind.{Kind}
 use Rattle.book.specs.declared.order.Kind.TheVariants.{Limit, IcLimit, IcMarket, TriggerMarket, TriggerLimit, LossCut}
 use Rattle.book.specs.declared.order.Order.{Order}
@@ -25,25 +26,23 @@ limited TriggerMarket = false
 limited TriggerLimit = true
 limited LossCut = false
 
+-- what ranks an order among those that have a limit as it has
+abbrev pub key : Order → PriceTime
+key o = record { price = o.price; moment = o.moment; number = o.number }
+
 abbrev pub earlier : Order → Order → Bool
-earlier p q = nat_lt p.moment q.moment || (p.moment == q.moment && nat_lt p.number q.number)
+earlier p q = PriceTime.earlier (key p) (key q)
 
 -- those without a limit first, then by price; then by moment, then by number
 abbrev pub by_limit : Bool → Bool → Side → Order → Order → Bool
 by_limit false false side p q = earlier p q
 by_limit false true side p q = true
 by_limit true false side p q = false
-by_limit true true side p q = better_price side p.price q.price || (p.price == q.price && earlier p q)
+by_limit true true side p q = PriceTime.ranks_before side (key p) (key q)
 
 abbrev pub ranks_before : Side → Order → Order → Bool
 ranks_before side p q = by_limit (limited p.kind) (limited q.kind) side p q
 
 -- on one side by rank; buys come before sells
-abbrev pub by_side : Side → Side → Order → Order → Bool
-by_side Buy Buy p q = ranks_before Buy p q
-by_side Buy Sell p q = true
-by_side Sell Buy p q = false
-by_side Sell Sell p q = ranks_before Sell p q
-
 abbrev pub order_before : Order → Order → Bool
-order_before p q = by_side p.side q.side p q
+order_before p q = by_side ranks_before p.side q.side p q

@@ -1,9 +1,11 @@
 // What a book of orders does, whatever keeps it.
-ghost use Rattle.std.specs.Prelude.{◌≡◌, ℕ, ◌-◌, ◌<◌, false, T, List, [], length};
+ghost use Rattle.std.specs.Prelude.{◌≡◌, ℕ, ◌-◌, ◌<◌, List, [], length, is_ok, IfSome, IfNone};
 ghost use Rattle.book.specs.declared.order.Order.{Order};
 ghost use Rattle.book.specs.Orders.{Sound, can_add, added, find, lowest, first_of, First, can_cut, cut, can_wake, woken, lowest_waking};
+ghost use Rattle.book.specs.Refusals.{unless, add_refusal, cut_refusal, wake_refusal};
 
 use crate::order::Order;
+use crate::refusal::BookRefusal;
 use terms::Side;
 
 // Any book: how many orders it can hold, 256 at most, and those that it holds, by number.
@@ -13,16 +15,15 @@ pub trait Book {
     ghost orders: { Self → List Order };
 
     // Takes an order in, unless there is no place left, its number stands already or it has no size.
-    fn add(&mut self, order: Order) -> bool
-        ensures answer { result ≡ can_add (capacity self.old) order (orders self.old) }
+    fn add(&mut self, order: Order) -> Result<(), BookRefusal>
+        ensures answer { result ≡ unless (add_refusal (capacity self.old) order (orders self.old)) }
+        ensures can { is_ok result ≡ can_add (capacity self.old) order (orders self.old) }
         ensures orders { orders self.new ≡ added (capacity self.old) order (orders self.old) }
-        ensures capacity { capacity self.new ≡ capacity self.old }
-        ensures sound { Sound (capacity self.new) (orders self.new) };
+        ensures capacity { capacity self.new ≡ capacity self.old };
 
     // How many orders more it takes.
     fn free(&self) -> usize
-        ensures answer { result ≡ capacity self.now - length (orders self.now) }
-        ensures sound { Sound (capacity self.now) (orders self.now) };
+        ensures { result ≡ capacity self.now - length (orders self.now) };
 
     fn order(&self, number: u32) -> Option<Order>
         ensures { result ≡ find number (orders self.now) };
@@ -36,38 +37,33 @@ pub trait Book {
         ensures answer { result ≡ first_of side (orders self.now) }
         ensures law { First side (orders self.now) result };
 
-    // Takes a size off an order, which is gone at 0; false where it is not live or has less left.
-    fn cut(&mut self, number: u32, size: u32) -> bool
-        ensures answer { result ≡ can_cut number size (orders self.old) }
+    // Takes a size off an order, which is gone at 0, unless it is not live or has less left.
+    fn cut(&mut self, number: u32, size: u32) -> Result<(), BookRefusal>
+        ensures answer { result ≡ unless (cut_refusal number size (orders self.old)) }
+        ensures can { is_ok result ≡ can_cut number size (orders self.old) }
         ensures orders { orders self.new ≡ cut number size (orders self.old) }
-        ensures capacity { capacity self.new ≡ capacity self.old }
-        ensures sound { Sound (capacity self.new) (orders self.new) };
+        ensures capacity { capacity self.new ≡ capacity self.old };
 
-    // Puts a waiting order in force at a moment; false for any other.
-    fn wake(&mut self, number: u32, moment: u32) -> bool
-        ensures answer { result ≡ can_wake number (orders self.old) }
+    // Puts a waiting order in force at a moment.
+    fn wake(&mut self, number: u32, moment: u32) -> Result<(), BookRefusal>
+        ensures answer { result ≡ unless (wake_refusal number (orders self.old)) }
+        ensures can { is_ok result ≡ can_wake number (orders self.old) }
         ensures orders { orders self.new ≡ woken number moment (orders self.old) }
-        ensures capacity { capacity self.new ≡ capacity self.old }
-        ensures sound { Sound (capacity self.new) (orders self.new) };
+        ensures capacity { capacity self.new ≡ capacity self.old };
 
     // The lowest waiting number that the levels wake.
     fn lowest_waking(&self, sells: Option<u32>, buys: Option<u32>) -> Option<u32>
         ensures { result ≡ lowest_waking sells buys (orders self.now) };
+
+    ghost sound: { (b : Self) → Sound (capacity b) (orders b) };
 }
 
-// Takes out the order of the lowest number; false where there is none.
-fn drop_lowest<B: Book>(book: &mut B) -> bool
-    ensures gone { T result → length (B.Book.orders book.new) < length (B.Book.orders book.old) }
-    ensures none { result ≡ false → B.Book.orders book.new ≡ [] }
-    ensures capacity { B.Book.capacity book.new ≡ B.Book.capacity book.old }
+// The order of the lowest number. With its size cut off, the book holds fewer.
+fn lowest_order<B: Book>(book: &B) -> Option<Order>
+    ensures fewer { IfSome result (λ o. length (cut o.number o.left (B.Book.orders book.now)) < length (B.Book.orders book.now)) }
+    ensures none { IfNone result (B.Book.orders book.now ≡ []) }
 {
-    let Some(number) = book.lowest() else {
-        return false;
-    };
-    let Some(order) = book.order(number) else {
-        return false;
-    };
-    book.cut(number, order.left)
+    book.order(book.lowest()?)
 }
 
 // Takes the orders out of any book, lowest number first.
@@ -75,5 +71,7 @@ pub fn empty<B: Book>(book: &mut B)
     ensures orders { B.Book.orders book.new ≡ [] }
     ensures capacity { B.Book.capacity book.new ≡ B.Book.capacity book.old }
 {
-    while drop_lowest(book) {}
+    while let Some(order) = lowest_order(book) {
+        let _ = book.cut(order.number, order.left);
+    }
 }

@@ -1,33 +1,28 @@
 // One side's orders in rank order, the first at the end, so that the first in force is at hand and leaves without a shift.
-ghost use Rattle.std.specs.Prelude.{◌≡◌, ◌+◌, ◌-◌, ◌<◌, ◌≤◌, [], length, take, IfSome, if◌then◌else◌, Some, None, MatchOption};
-ghost use Rattle.std.specs.List.{insert, remove};
-ghost use Rattle.book.specs.Ladders.{ahead, enter, lowest_in, end_in_force, lesser};
-ghost use Rattle.book.specs.Orders.{find, can_cut, cut, can_wake, wakes};
-ghost use Rattle.book.specs.Shelves.{items, Found, asked, wake_ranked};
+ghost use Rattle.std.specs.Prelude.{◌≡◌, suc, ◌<◌, ◌≤◌, Bool, true, [], ◌++◌, length, take, drop, None, ◌==◌, MatchResult};
+ghost use Rattle.std.specs.Fn.{FnReturnsAt};
+ghost use Rattle.std.specs.List.{insert, position};
+ghost use Rattle.std.specs.Option.{option_to_list};
+ghost use Rattle.book.specs.Ladders.{ahead, ranked, distinct, enter, end_in_force, lower_of, lowest_in, Stands, wake_ranked};
+ghost use Rattle.book.specs.declared.order.Order.{Order};
+ghost use Rattle.book.specs.declared.refusal.BookRefusal.TheVariants.{NotLive};
+ghost use Rattle.book.specs.Orders.{find, cut};
+ghost use Rattle.book.specs.Refusals.{unless, cut_refusal, wake_refusal};
 
-use crate::order::{Kind, Order};
+use crate::order::Order;
+use crate::refusal::BookRefusal;
+use arrayvec::ArrayVec;
 use rank::Ranked;
-use terms::Side;
 
 pub(crate) const CAPACITY: usize = 256;
 
-const NO_ORDER: Order = Order {
-    number: 0,
-    owner: 0,
-    kind: Kind::Limit,
-    side: Side::Buy,
-    price: 0,
-    trigger: 0,
-    left: 0,
-    moment: 0,
-    mate: 0,
-    waiting: false,
-};
-
+// No number stands twice in it.
 #[derive(Drop)]
 pub(crate) struct Ladder {
-    orders: [Order; CAPACITY],
-    len: usize,
+    orders: ArrayVec<Order, CAPACITY>,
+    ghost in_rank: { ranked orders.items ≡ true },
+    ghost apart: { distinct orders.items ≡ true },
+    ghost few: { length orders.items ≤ 256 },
 }
 
 // Whether an order stands nearer the end than another: in force before waiting, else by rank.
@@ -41,253 +36,131 @@ fn is_ahead(order: &Order, other: &Order) -> bool
     }
 }
 
-// The place that an order takes by rank.
-fn rank_place(orders: &[Order], order: &Order) -> usize
-    ensures within { result ≤ length orders.now }
-    ensures place { enter order.now orders.now ≡ insert orders.now result order.now }
+// Puts what is left of an order in its place, or takes it out where nothing is left.
+fn put_rest(orders: &mut ArrayVec<Order, CAPACITY>, place: usize, rest: Option<Order>)
+    requires { place < length orders.old.items }
+    ensures { orders.new.items ≡ take place orders.old.items ++ (option_to_list rest ++ drop (suc place) orders.old.items) }
 {
-    for (i, other) in orders.iter().enumerate() {
-        if !is_ahead(order, other) {
-            return i;
+    match rest {
+        Some(rest) => orders.as_mut_slice()[place] = rest,
+        None => {
+            orders.remove(place);
         }
     }
-    orders.len()
-}
-
-// The order of a number.
-fn found_in(orders: &[Order], number: u32) -> Option<Order>
-    ensures { result ≡ find number orders.now }
-{
-    match place_of(orders, number) {
-        Some(i) => Some(orders[i]),
-        None => None,
-    }
-}
-
-// The place of a number.
-fn place_of(orders: &[Order], number: u32) -> Option<usize>
-    ensures { MatchOption result (find number orders.now ≡ None) (λ i. Found number orders.now i) }
-{
-    for (i, order) in orders.iter().enumerate() {
-        if order.number == number {
-            return Some(i);
-        }
-    }
-    None
 }
 
 impl Ladder {
     pub(crate) fn new() -> Self
-        ensures { (items result ≡ []) × (result.len ≡ 0) }
+        ensures { result.orders.items ≡ [] }
     {
         Ladder {
-            orders: [NO_ORDER; CAPACITY],
-            len: 0,
+            orders: ArrayVec::new(),
         }
     }
 
-    pub(crate) fn len(&self) -> usize
-        requires { self.now.len ≤ 256 }
-        ensures count { result ≡ length (items self.now) }
-        ensures few { result ≤ 256 }
+    pub(crate) fn as_slice(&self) -> &[Order]
+        ensures { result.now ≡ self.now.orders.items }
     {
-        self.items().len()
+        self.orders.as_slice()
     }
 
-    fn items(&self) -> &[Order]
-        requires { self.now.len ≤ 256 }
-        ensures value { result.now ≡ items self.now }
-        ensures len { length result.now ≡ self.now.len }
+    // The place that an order takes by rank.
+    fn rank_place(&self, order: &Order) -> usize
+        ensures within { result ≤ length self.now.orders.items }
+        ensures place { enter order.now self.now.orders.items ≡ insert self.now.orders.items result order.now }
     {
-        &self.orders[0..self.len]
+        self.as_slice()
+            .partition_point(|other| is_ahead(order, other))
     }
 
     // Puts an order into its place by rank.
     pub(crate) fn enter(&mut self, order: Order)
-        requires within { self.old.len ≤ 256 }
-        requires room { length (items self.old) < 256 }
-        ensures items { items self.new ≡ enter order (items self.old) }
-        ensures len { self.new.len ≡ self.old.len + 1 }
-        ensures within { self.new.len ≤ 256 }
+        requires room { length self.old.orders.items < 256 }
+        requires new { find order.number self.old.orders.items ≡ None }
+        ensures { self.new.orders.items ≡ enter order self.old.orders.items }
     {
-        let at = rank_place(self.items(), &order);
-        insert_at(&mut self.orders, self.len, at, order);
-        self.len += 1;
+        let place = self.rank_place(&order);
+        self.orders.insert(place, order);
     }
 
+    // The place of a number.
     fn place(&self, number: u32) -> Option<usize>
-        requires { self.now.len ≤ 256 }
-        ensures found { MatchOption result (find number (items self.now) ≡ None) (λ i. Found number (items self.now) i) }
-        ensures inside { IfSome result (λ i. i < self.now.len) }
+        ensures { result ≡ position (λ o. o.number == number) self.now.orders.items }
     {
-        place_of(self.items(), number)
+        self.as_slice()
+            .iter()
+            .position(|order| order.number == number)
     }
 
-    // The order of a number.
-    pub(crate) fn find(&self, number: u32) -> Option<Order>
-        requires { self.now.len ≤ 256 }
-        ensures { result ≡ find number (items self.now) }
+    // The place of a live number, with its order.
+    fn live(&self, number: u32) -> Result<(usize, Order), BookRefusal>
+        ensures { MatchResult result
+            (λ p. Stands number self.now.orders.items p.0 p.1)
+            (λ why. (why ≡ NotLive) × (find number self.now.orders.items ≡ None)) }
     {
-        found_in(self.items(), number)
+        let place = self.place(number).ok_or(BookRefusal::NotLive)?;
+        Ok((place, self.as_slice()[place]))
     }
 
-    // Takes a size off an order, which is gone at 0; false where the number is not here or has less left.
-    pub(crate) fn cut(&mut self, number: u32, size: u32) -> bool
-        requires { self.old.len ≤ 256 }
-        ensures answer { result ≡ can_cut number size (items self.old) }
-        ensures items { items self.new ≡ cut number size (items self.old) }
-        ensures len { self.new.len ≤ self.old.len }
+    // Takes a size off an order, which is gone at 0.
+    pub(crate) fn cut(&mut self, number: u32, size: u32) -> Result<(), BookRefusal>
+        ensures answer { result ≡ unless (cut_refusal number size self.old.orders.items) }
+        ensures orders { self.new.orders.items ≡ cut number size self.old.orders.items }
     {
-        let Some(i) = self.place(number) else {
-            return false;
-        };
-        let order = self.orders[i];
+        let (place, order) = self.live(number)?;
         if size > order.left {
-            return false;
+            return Err(BookRefusal::TooLarge);
         }
-        match order.less(size) {
-            Some(rest) => self.orders[i] = rest,
-            None => self.take_out(i),
-        }
-        true
+        put_rest(&mut self.orders, place, order.less(size));
+        Ok(())
     }
 
-    fn take_out(&mut self, i: usize)
-        requires { (self.old.len ≤ 256) × (i < self.old.len) }
-        ensures items { items self.new ≡ remove (items self.old) i }
-        ensures len { self.new.len + 1 ≡ self.old.len }
-        ensures room { length (items self.new) < 256 }
+    // Puts a waiting order in force at a moment, in its new place by rank.
+    pub(crate) fn wake(&mut self, number: u32, moment: u32) -> Result<(), BookRefusal>
+        ensures answer { result ≡ unless (wake_refusal number self.old.orders.items) }
+        ensures orders { self.new.orders.items ≡ wake_ranked number moment self.old.orders.items }
     {
-        remove_at(&mut self.orders, self.len, i);
-        self.len -= 1;
-    }
-
-    // Puts a waiting order in force at a moment, in its new place by rank; false where the number is not here or does not wait.
-    pub(crate) fn wake(&mut self, number: u32, moment: u32) -> bool
-        requires { self.old.len ≤ 256 }
-        ensures answer { result ≡ can_wake number (items self.old) }
-        ensures items { items self.new ≡ wake_ranked number moment (items self.old) }
-        ensures len { self.new.len ≡ self.old.len }
-    {
-        let Some(i) = self.place(number) else {
-            return false;
-        };
-        let order = self.orders[i];
-        if order.waiting {
-            self.take_out(i);
-            self.enter(order.woken(moment));
-            return true;
+        let (place, order) = self.live(number)?;
+        if !order.waiting {
+            return Err(BookRefusal::InForce);
         }
-        false
+        self.orders.remove(place);
+        self.enter(order.woken(moment));
+        Ok(())
     }
 
     // The order at the end, if it is in force: the first by rank.
     pub(crate) fn first(&self) -> Option<Order>
-        requires { self.now.len ≤ 256 }
-        ensures { result ≡ end_in_force (items self.now) }
+        ensures { result ≡ end_in_force self.now.orders.items }
     {
-        end_of(self.items())
+        self.as_slice()
+            .last()
+            .copied()
+            .filter(|order| !order.waiting)
     }
 
-    // The lowest number of those that are asked for.
-    pub(crate) fn lowest(&self, ask: Ask) -> Option<u32>
-        requires { self.now.len ≤ 256 }
-        ensures { result ≡ lowest_in (asked ask) (items self.now) }
+    // The lowest number of the orders that pass a test.
+    pub(crate) fn lowest_where<F: Fn(&Order) -> bool>(&self, test: F) -> Option<u32>
+        requires { F.IsAlwaysCallable test }
+        ensures { (p : Order → Bool)
+            → ((o : Order) (passes : Bool) → FnReturnsAt F.Fn test o passes → passes ≡ p o)
+            → result ≡ lowest_in p self.now.orders.items }
     {
-        lowest_of(self.items(), ask)
-    }
-}
-
-fn end_of(orders: &[Order]) -> Option<Order>
-    ensures { result ≡ end_in_force orders.now }
-{
-    if orders.is_empty() {
-        return None;
-    }
-    let end = orders[orders.len() - 1];
-    if end.waiting { None } else { Some(end) }
-}
-
-// Which orders are asked for: all, or the waiting ones that two levels wake.
-#[derive(Clone, Copy)]
-pub(crate) enum Ask {
-    Any,
-    Waking(Option<u32>, Option<u32>),
-}
-
-// Sells wake at triggers at or above the first level, buys at or below the second.
-fn is_woken(order: &Order, sells: Option<u32>, buys: Option<u32>) -> bool
-    ensures { result ≡ wakes sells buys order.now }
-{
-    let level = match order.side {
-        Side::Sell => sells,
-        Side::Buy => buys,
-    };
-    let Some(level) = level else {
-        return false;
-    };
-    let reached = match order.side {
-        Side::Sell => level <= order.trigger,
-        Side::Buy => order.trigger <= level,
-    };
-    order.waiting && reached
-}
-
-fn is_asked(order: &Order, ask: Ask) -> bool
-    ensures { result ≡ asked ask order.now }
-{
-    match ask {
-        Ask::Any => true,
-        Ask::Waking(sells, buys) => is_woken(order, sells, buys),
-    }
-}
-
-fn asked_number(order: &Order, ask: Ask) -> Option<u32>
-    ensures { result ≡ (if asked ask order.now then Some order.now.number else None) }
-{
-    if is_asked(order, ask) {
-        Some(order.number)
-    } else {
-        None
+        self.as_slice()
+            .iter()
+            .copied()
+            .filter(|order| test(order))
+            .map(|order| order.number)
+            .min()
     }
 }
 
 // The lower of two numbers, each if present.
 pub(crate) fn lower_of(a: Option<u32>, b: Option<u32>) -> Option<u32>
-    ensures { result ≡ lesser a b }
+    ensures { result ≡ lower_of a b }
 {
     match (a, b) {
-        (None, other) => other,
-        (Some(a), None) => Some(a),
-        (Some(a), Some(b)) => { if a <= b { Some(a) } else { Some(b) } }
+        (Some(a), Some(b)) => Some(a.min(b)),
+        (a, b) => a.or(b),
     }
-}
-
-fn lowest_of(orders: &[Order], ask: Ask) -> Option<u32>
-    ensures { result ≡ lowest_in (asked ask) orders.now }
-{
-    let mut least = None;
-    for order in orders {
-        least = lower_of(least, asked_number(order, ask));
-    }
-    least
-}
-
-// Puts an item at a place among the first `len`, and moves those from there on up by one.
-fn insert_at<T: Copy>(all: &mut [T], len: usize, at: usize, item: T)
-    requires at { at ≤ len }
-    requires room { len < length all.old }
-    ensures { take (len + 1) all.new ≡ insert (take len all.old) at item }
-{
-    all[len] = item;
-    all[at..len + 1].rotate_right(1);
-}
-
-// Takes the item at a place out of the first `len`, and moves those behind it down by one.
-fn remove_at<T: Copy>(all: &mut [T], len: usize, at: usize)
-    requires at { at < len }
-    requires within { len ≤ length all.old }
-    ensures { take (len - 1) all.new ≡ remove (take len all.old) at }
-{
-    all[at..len].rotate_left(1);
 }

@@ -5,10 +5,12 @@ pub mod book;
 mod ladder;
 pub mod order;
 pub mod ranks;
+pub mod refusal;
 pub mod sorted;
 #[cfg(test)]
 mod tests;
 
 pub use book::{Book, empty};
 pub use order::{Kind, Order};
+pub use refusal::BookRefusal;
 pub use sorted::SortedBook;

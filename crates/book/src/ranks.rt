@@ -1,57 +1,51 @@
 // The rank of orders: those without a price limit first; then by price, moment and number.
 ghost use Rattle.std.specs.Prelude.{◌≡◌, ◌-◌, ◌<◌, ◌≤◌, MatchOption};
-ghost use Rattle.book.specs.Orders.{with_left, woken_at};
-ghost use Rattle.book.specs.Ranks.{kind_number, limited, ranks_before, order_before};
-ghost use Rattle.book.specs.OrderRank.{before_onward, before_decided};
-ghost use Rattle.std.proofs.Common.{rules};
+ghost use Rattle.book.specs.Orders.{with_left, woken_at, wakes};
+ghost use Rattle.book.specs.Ranks.{kind_number, limited, key, ranks_before, order_before};
+ghost use Rattle.book.specs.OrderRank.{before_never, before_onward, before_decided};
 
 use crate::order::{Kind, Order};
-use rank::Ranked;
+use rank::{PriceTime, Ranked};
 use terms::Side;
 
 impl Kind {
     pub fn number(&self) -> u32
         ensures { result ≡ kind_number self.now }
     {
-        match self {
-            Kind::Limit => 1,
-            Kind::IcLimit => 2,
-            Kind::IcMarket => 3,
-            Kind::TriggerMarket => 4,
-            Kind::TriggerLimit => 5,
-            Kind::LossCut => 6,
-        }
+        *self as u32
     }
 
     // Whether it has a price limit.
     pub fn is_limited(&self) -> bool
         ensures { result ≡ limited self.now }
     {
-        match self {
-            Kind::Limit | Kind::IcLimit | Kind::TriggerLimit => true,
-            Kind::IcMarket | Kind::TriggerMarket | Kind::LossCut => false,
-        }
+        matches!(self, Kind::Limit | Kind::IcLimit | Kind::TriggerLimit)
     }
 }
 
 impl Order {
+    fn key(&self) -> PriceTime
+        ensures { result ≡ key self.now }
+    {
+        PriceTime {
+            price: self.price,
+            moment: self.moment,
+            number: self.number,
+        }
+    }
+
     // Whether it ranks before another order of the side.
     pub fn ranks_before(&self, other: &Order, side: Side) -> bool
         ensures { result ≡ ranks_before side self.now other.now }
     {
-        let earlier = self.moment < other.moment
-            || self.moment == other.moment && self.number < other.number;
         match (self.kind.is_limited(), other.kind.is_limited()) {
-            (false, false) => earlier,
+            (false, false) => self.key().is_earlier(other.key()),
             (false, true) => true,
             (true, false) => false,
-            (true, true) => side.prefers(self.price, other.price)
-                || self.price == other.price && earlier,
+            (true, true) => self.key().ranks_before(other.key(), side),
         }
     }
-}
 
-impl Order {
     // In force from a moment on.
     pub fn woken(&self, moment: u32) -> Order
         ensures { result ≡ woken_at moment self.now }
@@ -67,14 +61,21 @@ impl Order {
     pub fn less(&self, size: u32) -> Option<Order>
         ensures { MatchOption result (self.now.left ≤ size) (λ o. (size < self.now.left) × (o ≡ with_left (self.now.left - size) self.now)) }
     {
-        if size < self.left {
-            Some(Order {
-                left: self.left - size,
-                ..*self
-            })
-        } else {
-            None
-        }
+        (size < self.left).then(|| Order {
+            left: self.left - size,
+            ..*self
+        })
+    }
+
+    // Whether two levels wake it: a sell with its trigger at or above the first, a buy with its own at or below the second.
+    pub fn wakes(&self, sells: Option<u32>, buys: Option<u32>) -> bool
+        ensures { result ≡ wakes sells buys self.now }
+    {
+        let reached = match self.side {
+            Side::Sell => sells.is_some_and(|level| level <= self.trigger),
+            Side::Buy => buys.is_some_and(|level| self.trigger <= level),
+        };
+        self.waiting && reached
     }
 }
 
@@ -83,17 +84,13 @@ impl Ranked for Order {
 
     ghost before = { order_before };
 
-    ghost irreflexive = { Prim.search rules };
+    ghost irreflexive = { before_never };
 
-    ghost transitive = { λ p q r h k. before_onward p q r h k };
+    ghost transitive = { before_onward };
 
-    ghost decided = { λ p q other. before_decided p q other };
+    ghost decided = { before_decided };
 
     fn precedes(&self, other: &Order) -> bool {
-        match (self.side, other.side) {
-            (Side::Buy, Side::Sell) => true,
-            (Side::Sell, Side::Buy) => false,
-            (side, _) => self.ranks_before(other, side),
-        }
+        self.side < other.side || self.side == other.side && self.ranks_before(other, self.side)
     }
 }

@@ -1,6 +1,7 @@
 // Stories over any book, worked out by hand from the rules.
 use crate::book::{Book, empty};
 use crate::order::{Kind, Order};
+use crate::refusal::BookRefusal;
 use crate::sorted::SortedBook;
 use std::process::Abort;
 use std::test::Fail;
@@ -41,31 +42,38 @@ fn trigger(number: u32, side: Side, trigger: u32) -> Order {
     }
 }
 
-// The number of the first in force of a side, 0 where there is none.
-fn first_number<B: Book>(book: &B, side: Side) -> u32 {
-    match book.first(side) {
-        Some(order) => order.number,
-        None => 0,
+fn without_size(number: u32) -> Order {
+    Order {
+        left: 0,
+        ..limit(number, Side::Sell, 15_000, 257)
     }
+}
+
+// The number of the first in force of a side.
+fn first_number<B: Book>(book: &B, side: Side) -> Option<u32> {
+    book.first(side).map(|order| order.number)
 }
 
 // Takes the first of a side out, whose number is known.
 fn check_first<B: Book>(rt: &impl Abort, book: &mut B, side: Side, number: u32) {
-    assert_eq!(rt; first_number(book, side), number);
-    assert!(rt; book.cut(number, 5));
+    assert_eq!(rt; first_number(book, side), Some(number));
+    assert!(rt; book.cut(number, 5).is_ok());
 }
 
 fn ranks<B: Book>(rt: &impl Abort, book: &mut B) {
-    assert_eq!(rt; first_number(book, Side::Buy), 0);
-    assert!(rt; book.add(limit(1, Side::Buy, 15_000, 3)));
-    assert!(rt; book.add(limit(3, Side::Buy, 15_001, 4)));
-    assert!(rt; book.add(limit(2, Side::Buy, 15_000, 3)));
-    assert!(rt; book.add(limit(4, Side::Buy, 15_000, 2)));
-    assert!(rt; book.add(limit(5, Side::Sell, 15_002, 3)));
-    assert!(rt; book.add(limit(6, Side::Sell, 15_003, 1)));
-    assert!(rt; book.add(limit(8, Side::Sell, 15_002, 2)));
-    assert!(rt; book.add(limit(7, Side::Sell, 15_002, 3)));
-    assert!(rt; !book.add(limit(6, Side::Buy, 15_003, 1)));
+    assert_eq!(rt; first_number(book, Side::Buy), None);
+    assert!(rt; book.add(limit(1, Side::Buy, 15_000, 3)).is_ok());
+    assert!(rt; book.add(limit(3, Side::Buy, 15_001, 4)).is_ok());
+    assert!(rt; book.add(limit(2, Side::Buy, 15_000, 3)).is_ok());
+    assert!(rt; book.add(limit(4, Side::Buy, 15_000, 2)).is_ok());
+    assert!(rt; book.add(limit(5, Side::Sell, 15_002, 3)).is_ok());
+    assert!(rt; book.add(limit(6, Side::Sell, 15_003, 1)).is_ok());
+    assert!(rt; book.add(limit(8, Side::Sell, 15_002, 2)).is_ok());
+    assert!(rt; book.add(limit(7, Side::Sell, 15_002, 3)).is_ok());
+    assert_eq!(rt;
+        book.add(limit(6, Side::Buy, 15_003, 1)),
+        Err(BookRefusal::NumberLive)
+    );
     check_first(rt, book, Side::Buy, 3);
     check_first(rt, book, Side::Buy, 4);
     check_first(rt, book, Side::Buy, 1);
@@ -78,9 +86,9 @@ fn ranks<B: Book>(rt: &impl Abort, book: &mut B) {
 }
 
 fn wakes<B: Book>(rt: &impl Abort, book: &mut B) {
-    assert!(rt; book.add(limit(1, Side::Sell, 1, 1)));
-    assert!(rt; book.add(trigger(2, Side::Sell, 14_990)));
-    assert!(rt; book.add(trigger(3, Side::Buy, 15_010)));
+    assert!(rt; book.add(limit(1, Side::Sell, 1, 1)).is_ok());
+    assert!(rt; book.add(trigger(2, Side::Sell, 14_990)).is_ok());
+    assert!(rt; book.add(trigger(3, Side::Buy, 15_010)).is_ok());
     assert!(rt;
         book.add(Order {
             kind: Kind::LossCut,
@@ -88,15 +96,17 @@ fn wakes<B: Book>(rt: &impl Abort, book: &mut B) {
             moment: 5,
             ..limit(4, Side::Sell, 0, 5)
         })
+        .is_ok()
     );
     assert_eq!(rt; book.lowest_waking(Some(14_991), Some(15_009)), None);
     assert_eq!(rt; book.lowest_waking(Some(14_990), None), Some(2));
     assert_eq!(rt; book.lowest_waking(None, Some(15_010)), Some(3));
     assert_eq!(rt; book.lowest_waking(Some(1), Some(20_000)), Some(2));
-    assert_eq!(rt; first_number(book, Side::Buy), 0);
-    assert!(rt; book.wake(2, 6));
-    assert!(rt; !book.wake(2, 7));
-    assert!(rt; !book.wake(1, 7));
+    assert_eq!(rt; first_number(book, Side::Buy), None);
+    assert!(rt; book.wake(2, 6).is_ok());
+    assert_eq!(rt; book.wake(2, 7), Err(BookRefusal::InForce));
+    assert_eq!(rt; book.wake(1, 7), Err(BookRefusal::InForce));
+    assert_eq!(rt; book.wake(5, 7), Err(BookRefusal::NotLive));
     assert_eq!(rt; book.lowest_waking(Some(1), None), None);
     check_first(rt, book, Side::Sell, 4);
     check_first(rt, book, Side::Sell, 2);
@@ -106,24 +116,24 @@ fn wakes<B: Book>(rt: &impl Abort, book: &mut B) {
 
 fn full<B: Book>(rt: &impl Abort, book: &mut B) -> Result<(), Fail> {
     for number in 1..257 {
-        assert!(rt; book.add(limit(number, Side::Buy, 15_000, number)));
+        assert!(rt; book.add(limit(number, Side::Buy, 15_000, number)).is_ok());
     }
     assert_eq!(rt; book.free(), 0);
-    assert!(rt; !book.add(limit(257, Side::Sell, 15_000, 257)));
-    assert!(rt; !book.cut(9, 6));
-    assert!(rt; !book.cut(300, 1));
-    assert!(rt; book.cut(9, 4));
+    assert_eq!(rt;
+        book.add(limit(257, Side::Sell, 15_000, 257)),
+        Err(BookRefusal::Full)
+    );
+    assert_eq!(rt; book.add(without_size(8)), Err(BookRefusal::Full));
+    assert_eq!(rt; book.cut(9, 6), Err(BookRefusal::TooLarge));
+    assert_eq!(rt; book.cut(300, 1), Err(BookRefusal::NotLive));
+    assert!(rt; book.cut(9, 4).is_ok());
     assert_eq!(rt; book.order(9).ok_or("live")?.left, 1);
     assert_eq!(rt; book.free(), 0);
-    assert!(rt; book.cut(9, 1));
+    assert!(rt; book.cut(9, 1).is_ok());
     assert!(rt; book.order(9).is_none());
-    assert!(rt;
-        !book.add(Order {
-            left: 0,
-            ..limit(257, Side::Sell, 15_000, 257)
-        })
-    );
-    assert!(rt; book.add(limit(257, Side::Sell, 15_000, 257)));
+    assert_eq!(rt; book.add(without_size(257)), Err(BookRefusal::NoSize));
+    assert_eq!(rt; book.add(without_size(8)), Err(BookRefusal::NumberLive));
+    assert!(rt; book.add(limit(257, Side::Sell, 15_000, 257)).is_ok());
     empty(book);
     assert_eq!(rt; book.free(), 256);
     Ok(())

@@ -4,9 +4,6 @@ use Rattle.std.proofs.lemmas.Bool.{cases_Bool, cond-true, cond-false, both_ways}
 use Rattle.std.specs.Option.{option_map}
 use Rattle.rank.specs.Firsts.{ahead, first_from, leader, Leads, Finds}
 
-pub none_some : {X : Type 0} (x : X) → ◌≡◌ {A = Option X} None (Some x) → ⊥
-none_some x h = let z : ◌≡◌ {A = ℕ} 0 1 = cc in omega arith
-
 module _ {E : Type 0} (before : E → E → Bool) where
   ahead_none : (best : Option (ℕ × E)) (at : ℕ) (o : Option E) → ahead before best at o ≡ None → (best ≡ None) × (o ≡ None)
   ahead_none best at None h = (h, refl)
@@ -61,7 +58,7 @@ module _ {E : Type 0} (before : E → E → Bool) where
         record {
           stood = elim t.stood [ inl h ↦ inl h | inr s ↦ inr (later_stood None os at place entry s) ];
           kept = t.kept;
-          rest = rest_at None os entry (λ x h. absurd (none_some x h)) t.rest;
+          rest = rest_at None os entry (λ x h. cc) t.rest;
         }
 
     took : (best : Option (ℕ × E)) (e : E) (at : ℕ) (os : List (Option E)) (place : ℕ) (entry : E) → ((b : ℕ × E) → best ≡ Some b → before e b.1 ≡ true) → Chosen (Some (at, e)) (at + 1) os place entry → Chosen best at (Some e ∷ os) place entry
@@ -89,10 +86,10 @@ module _ {E : Type 0} (before : E → E → Bool) where
         record {
           stood = inl h;
           kept = λ b is x f. let q : b.1 ≡ entry = cc in rw (← q) f;
-          rest = λ i x e. absurd (none_some x e);
+          rest = λ i x e. cc;
         }
     chosen (None ∷ os) best at place entry h = passed best at os place entry (chosen os best (at + 1) place entry h)
-    chosen (Some e ∷ os) None at place entry h = took None e at os place entry (λ b is. absurd (none_some b is)) (chosen os (Some (at, e)) (at + 1) place entry h)
+    chosen (Some e ∷ os) None at place entry h = took None e at os place entry (λ b is. cc) (chosen os (Some (at, e)) (at + 1) place entry h)
     chosen (Some e ∷ os) (Some b) at place entry h =
         let on : Option (ℕ × E) → Option (ℕ × E) = λ n. first_from before n (at + 1) os in
         elim (cases_Bool (before e b.1)) [
@@ -105,7 +102,7 @@ module _ {E : Type 0} (before : E → E → Bool) where
     leader_leads os place entry h =
         let c : Chosen None 0 os place entry = chosen os None 0 place entry h in
         elim c.stood [
-          | inl n ↦ absurd (none_some (place, entry) n)
+          | inl n ↦ cc
           | inr s ↦ let q : place ≡ s.0 = omega (arith, s.1) in record { within = omega (arith, s.2); stands = rw q s.3; unpreceded = c.rest }
         ]
 
@@ -114,12 +111,12 @@ module _ {E : Type 0} (before : E → E → Bool) where
         record {
           nothing = λ h. (from_none None 0 os (sym is)).1;
           vacant = λ all. refl;
-          leads = λ place h. absurd (none_some place h);
+          leads = λ place h. cc;
         }
     search_finds os (Some a) is =
         record {
-          nothing = λ h. absurd (none_some a.0 (sym h));
-          vacant = λ all. absurd (none_some a (sym (to_none None 0 os refl all) ∙ sym is));
+          nothing = λ h. cc;
+          vacant = λ all. let none = to_none None 0 os refl all in cc;
           leads = λ place h. let q : a.0 ≡ place = cc in (a.1, rw (← q) (leader_leads os a.0 a.1 (sym is)));
         }
 

@@ -5,6 +5,10 @@ ghost use Rattle.std.specs.Prelude.{◌≡◌, ℕ, Bool, true, false, not, map,
 ghost use Rattle.rank.specs.Firsts.{through, ahead, leader, first_place, Finds};
 ghost use Rattle.std.specs.Option.{option_map};
 
+pub mod price_time;
+
+pub use price_time::PriceTime;
+
 // An entry with a rank.
 pub trait Ranked {
     // Whose entry it is.
@@ -43,10 +47,7 @@ impl<S: Slot> Slot for Option<S> {
     ghost stands = { λ pick o. through (S.Slot.stands pick) o };
 
     fn standing(&self, pick: S::Pick) -> Option<S::Entry> {
-        match self {
-            Some(slot) => slot.standing(pick),
-            None => None,
-        }
+        self.as_ref()?.standing(pick)
     }
 }
 
@@ -88,8 +89,5 @@ pub fn first<S: Slot>(slots: &[S], pick: S::Pick) -> Option<usize>
     ensures place { result ≡ first_place S.Entry.Ranked.before (map (S.Slot.stands pick) slots.now) }
     ensures law { Finds S.Entry.Ranked.before (map (S.Slot.stands pick) slots.now) result }
 {
-    match leader(slots, pick) {
-        Some((place, _)) => Some(place),
-        None => None,
-    }
+    leader(slots, pick).map(|(place, _)| place)
 }

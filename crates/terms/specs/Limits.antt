@@ -1,7 +1,5 @@
 -- The ranges of what a call may say.
-use Rattle.std.specs.Prelude.{ℕ, Bool, cond, ◌&&◌, Some, None, Option, ◌==◌, nat_le}
-use Rattle.terms.specs.declared.side.Side.{Side}
-use Rattle.terms.specs.declared.side.Side.TheVariants.{Buy, Sell}
+use Rattle.std.specs.Prelude.{ℕ, Bool, ◌&&◌, nat_le}
 
 -- both ends are inside
 abbrev pub within : ℕ → ℕ → ℕ → Bool
@@ -19,6 +17,6 @@ is_size n = within 1 1000000 n
 abbrev pub is_owner : ℕ → Bool
 is_owner n = within 1 65535 n
 
--- the side of a number, if it is one
-abbrev pub side_of : ℕ → Option Side
-side_of n = cond (n == 1) (Some Buy) (cond (n == 2) (Some Sell) None)
+-- a maker's number: there are sixteen
+abbrev pub is_maker : ℕ → Bool
+is_maker n = within 1 16 n

@@ -2,12 +2,13 @@
 #![tactic(auto)]
 
 ghost use Rattle.std.specs.Prelude.{◌≡◌};
-ghost use Rattle.terms.specs.Limits.{is_price, is_size, is_owner, side_of};
-ghost use Rattle.terms.specs.Side.{side_number, other_side, better_price};
+ghost use Rattle.terms.specs.Limits.{is_price, is_size, is_owner, is_maker};
 
+pub mod by_side;
 pub mod side;
 
-pub use side::Side;
+pub use by_side::BySide;
+pub use side::{NoSide, Side};
 
 // The last minute that a call may name; above it every hour is closed.
 pub const LAST_MINUTE: u32 = 9_999_999;
@@ -38,58 +39,23 @@ pub const LAST_OWNER: u32 = 65_535;
 pub fn is_price(number: u32) -> bool
     ensures { result ≡ is_price number }
 {
-    1 <= number && number <= LAST_PRICE
+    (1..=LAST_PRICE).contains(&number)
 }
 
 pub fn is_size(number: u32) -> bool
     ensures { result ≡ is_size number }
 {
-    1 <= number && number <= LARGEST_SIZE
+    (1..=LARGEST_SIZE).contains(&number)
 }
 
 pub fn is_owner(number: u32) -> bool
     ensures { result ≡ is_owner number }
 {
-    1 <= number && number <= LAST_OWNER
+    (1..=LAST_OWNER).contains(&number)
 }
 
-impl Side {
-    // The side of a number, if it is one.
-    pub fn of(number: u32) -> Option<Side>
-        ensures { result ≡ side_of number }
-    {
-        match number {
-            1 => Some(Side::Buy),
-            2 => Some(Side::Sell),
-            _ => None,
-        }
-    }
-
-    pub fn number(self) -> u32
-        ensures { result ≡ side_number self }
-    {
-        match self {
-            Side::Buy => 1,
-            Side::Sell => 2,
-        }
-    }
-
-    pub fn other(self) -> Side
-        ensures { result ≡ other_side self }
-    {
-        match self {
-            Side::Buy => Side::Sell,
-            Side::Sell => Side::Buy,
-        }
-    }
-
-    // Whether a price is better than another: higher for buys, lower for sells.
-    pub fn prefers(self, price: u32, other: u32) -> bool
-        ensures { result ≡ better_price self price other }
-    {
-        match self {
-            Side::Buy => price > other,
-            Side::Sell => price < other,
-        }
-    }
+pub fn is_maker(number: u32) -> bool
+    ensures { result ≡ is_maker number }
+{
+    (1..=MAKERS).contains(&(number as usize))
 }

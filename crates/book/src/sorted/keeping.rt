@@ -1,61 +1,66 @@
 // The sorted book, shown to be a book.
-ghost use Rattle.std.specs.Prelude.{◌≡◌, ◌<◌, ◌≤◌, [], length, None};
-ghost use Rattle.book.specs.Orders.{Sound, find, place, can_cut, cut, can_wake, woken, first_of, First, lowest_by};
-ghost use Rattle.book.specs.Shelves.{items, asked};
-ghost use Rattle.book.specs.Sorted.{sorted_orders};
+ghost use Rattle.std.specs.Prelude.{◌≡◌, ◌<◌, ◌≤◌, Bool, [], length, None, MatchResult};
+ghost use Rattle.std.specs.Fn.{FnReturnsAt};
+ghost use Rattle.book.specs.declared.order.Order.{Order};
+ghost use Rattle.book.specs.declared.refusal.BookRefusal.TheVariants.{NotLive};
+ghost use Rattle.book.specs.Orders.{find, place, cut, woken, first_of, First, lowest_by};
+ghost use Rattle.book.specs.Refusals.{unless, cut_refusal, wake_refusal};
+ghost use Rattle.book.specs.Sorted.{sorted_orders, StandsOn};
 
 use crate::book::Book;
-use crate::ladder::{Ask, CAPACITY, Ladder, lower_of};
+use crate::ladder::{CAPACITY, Ladder, lower_of};
 use crate::order::Order;
+use crate::refusal::BookRefusal;
 use crate::sorted::SortedBook;
-use terms::Side;
+use terms::{BySide, Side};
 
 impl SortedBook {
     pub fn new() -> Self
         ensures { sorted_orders result ≡ [] }
     {
-        SortedBook::of(Ladder::new(), Ladder::new())
-    }
-
-    fn of(buys: Ladder, sells: Ladder) -> Self
-        requires buys { (items buys ≡ []) × (buys.len ≡ 0) }
-        requires sells { (items sells ≡ []) × (sells.len ≡ 0) }
-        ensures { sorted_orders result ≡ [] }
-    {
-        SortedBook { buys, sells }
+        SortedBook {
+            ladders: BySide {
+                buy: Ladder::new(),
+                sell: Ladder::new(),
+            },
+        }
     }
 
     fn count(&self) -> usize
         ensures count { result ≡ length (sorted_orders self.now) }
         ensures few { result ≤ 256 }
-        ensures sound { Sound 256 (sorted_orders self.now) }
     {
-        self.buys.len() + self.sells.len()
+        self.ladders.buy.as_slice().len() + self.ladders.sell.as_slice().len()
     }
 
     fn find_order(&self, number: u32) -> Option<Order>
         ensures { result ≡ find number (sorted_orders self.now) }
     {
-        match self.buys.find(number) {
-            Some(order) => Some(order),
-            None => self.sells.find(number),
-        }
+        let (buys, sells) = (self.ladders.buy.as_slice(), self.ladders.sell.as_slice());
+        buys.iter()
+            .chain(sells)
+            .find(|order| order.number == number)
+            .copied()
     }
 
-    fn lowest_asked(&self, ask: Ask) -> Option<u32>
-        ensures { result ≡ lowest_by (asked ask) (sorted_orders self.now) }
+    // The lowest number of the orders that pass a test.
+    fn lowest_where<F: Fn(&Order) -> bool>(&self, test: F) -> Option<u32>
+        requires { F.IsAlwaysCallable test }
+        ensures { (p : Order → Bool)
+            → ((o : Order) (passes : Bool) → FnReturnsAt F.Fn test o passes → passes ≡ p o)
+            → result ≡ lowest_by p (sorted_orders self.now) }
     {
-        lower_of(self.buys.lowest(ask), self.sells.lowest(ask))
+        lower_of(
+            self.ladders.buy.lowest_where(&test),
+            self.ladders.sell.lowest_where(&test),
+        )
     }
 
     fn first_on(&self, side: Side) -> Option<Order>
         ensures answer { result ≡ first_of side (sorted_orders self.now) }
         ensures law { First side (sorted_orders self.now) result }
     {
-        match side {
-            Side::Buy => self.buys.first(),
-            Side::Sell => self.sells.first(),
-        }
+        self.ladders.on(side).first()
     }
 
     // Adds an order for which there is room, with a size and a number of its own.
@@ -63,29 +68,35 @@ impl SortedBook {
         requires room { length (sorted_orders self.old) < 256 }
         requires new { find order.number (sorted_orders self.old) ≡ None }
         requires sized { 0 < order.left }
-        ensures orders { sorted_orders self.new ≡ place order (sorted_orders self.old) }
-        ensures sound { Sound 256 (sorted_orders self.new) }
+        ensures { sorted_orders self.new ≡ place order (sorted_orders self.old) }
     {
-        match order.side {
-            Side::Buy => self.buys.enter(order),
-            Side::Sell => self.sells.enter(order),
-        }
+        self.ladders.on_mut(order.side).enter(order);
     }
 
-    fn cut_order(&mut self, number: u32, size: u32) -> bool
-        ensures answer { result ≡ can_cut number size (sorted_orders self.old) }
+    // The side of a live number.
+    fn side_of(&self, number: u32) -> Result<Side, BookRefusal>
+        ensures { MatchResult result
+            (λ side. StandsOn number side self.now.ladders)
+            (λ why. (why ≡ NotLive) × (find number (sorted_orders self.now) ≡ None)) }
+    {
+        let order = self.find_order(number).ok_or(BookRefusal::NotLive)?;
+        Ok(order.side)
+    }
+
+    fn cut_order(&mut self, number: u32, size: u32) -> Result<(), BookRefusal>
+        ensures answer { result ≡ unless (cut_refusal number size (sorted_orders self.old)) }
         ensures orders { sorted_orders self.new ≡ cut number size (sorted_orders self.old) }
-        ensures sound { Sound 256 (sorted_orders self.new) }
     {
-        self.buys.cut(number, size) || self.sells.cut(number, size)
+        let side = self.side_of(number)?;
+        self.ladders.on_mut(side).cut(number, size)
     }
 
-    fn wake_order(&mut self, number: u32, moment: u32) -> bool
-        ensures answer { result ≡ can_wake number (sorted_orders self.old) }
+    fn wake_order(&mut self, number: u32, moment: u32) -> Result<(), BookRefusal>
+        ensures answer { result ≡ unless (wake_refusal number (sorted_orders self.old)) }
         ensures orders { sorted_orders self.new ≡ woken number moment (sorted_orders self.old) }
-        ensures sound { Sound 256 (sorted_orders self.new) }
     {
-        self.buys.wake(number, moment) || self.sells.wake(number, moment)
+        let side = self.side_of(number)?;
+        self.ladders.on_mut(side).wake(number, moment)
     }
 }
 
@@ -94,12 +105,20 @@ impl Book for SortedBook {
 
     ghost orders = { sorted_orders };
 
-    fn add(&mut self, order: Order) -> bool {
-        if self.count() >= CAPACITY || self.find_order(order.number).is_some() || order.left == 0 {
-            return false;
+    ghost sound = { λ b. b.sound };
+
+    fn add(&mut self, order: Order) -> Result<(), BookRefusal> {
+        if self.count() >= CAPACITY {
+            return Err(BookRefusal::Full);
+        }
+        if self.find_order(order.number).is_some() {
+            return Err(BookRefusal::NumberLive);
+        }
+        if order.left == 0 {
+            return Err(BookRefusal::NoSize);
         }
         self.enter(order);
-        true
+        Ok(())
     }
 
     fn free(&self) -> usize {
@@ -111,22 +130,22 @@ impl Book for SortedBook {
     }
 
     fn lowest(&self) -> Option<u32> {
-        self.lowest_asked(Ask::Any)
+        self.lowest_where(|_| true)
     }
 
     fn first(&self, side: Side) -> Option<Order> {
         self.first_on(side)
     }
 
-    fn cut(&mut self, number: u32, size: u32) -> bool {
+    fn cut(&mut self, number: u32, size: u32) -> Result<(), BookRefusal> {
         self.cut_order(number, size)
     }
 
-    fn wake(&mut self, number: u32, moment: u32) -> bool {
+    fn wake(&mut self, number: u32, moment: u32) -> Result<(), BookRefusal> {
         self.wake_order(number, moment)
     }
 
     fn lowest_waking(&self, sells: Option<u32>, buys: Option<u32>) -> Option<u32> {
-        self.lowest_asked(Ask::Waking(sells, buys))
+        self.lowest_where(|order| order.wakes(sells, buys))
     }
 }

@@ -1,23 +1,16 @@
-use Rattle.std.proofs.Common.{rules}
-use Rattle.board.proofs.Bests.{at_first, none_first, found_within, best_law}
+use Rattle.std.proofs.Common.{◌∙◌}
+use Rattle.board.proofs.Bests.{at_first, best_law}
 use Rattle.board.proofs.slots.Slots.best.Goals as goal
 
-pub offset_bounds-self-place : goal.offset_bounds-self-place
-offset_bounds-self-place c =
-    let h = found_within c.args.side c.args.self.now.quotes c.in-Some.place c.args.self.now.sixteen c.in-Some.ensures.law in
-    search rules
+pub returns-in_err-place-clause-law : goal.returns-in_err-place-clause-law
+returns-in_err-place-clause-law c =
+    let slots = c.args.self.now in
+    best_law c.args.side slots.quotes slots.own.own _ (c.from_residual.ensures ∙ at_first c.args.side slots.quotes _ c.in_err-place.ensures.place)
 
-pub bounds-self-place : goal.bounds-self-place
-bounds-self-place c = found_within c.args.side c.args.self.now.quotes c.in-Some.place c.args.self.now.sixteen c.in-Some.ensures.law
+pub returns-clause-answer : goal.returns-clause-answer
+returns-clause-answer c = at_first c.args.side c.args.self.now.quotes _ c.in_ok-place.ensures.place
 
-pub returns-in-Some : goal.returns-in-Some
-returns-in-Some c =
-    let self = c.args.self.now in
-    let is = at_first c.args.side self.quotes c.in-Some.place c.in-Some.ensures.place in
-    record { answer = is; law = best_law c.args.side self.quotes self.own _ is }
-
-pub returns-in-None : goal.returns-in-None
-returns-in-None c =
-    let self = c.args.self.now in
-    let is = none_first c.args.side self.quotes c.in-None.ensures.place in
-    record { answer = is; law = best_law c.args.side self.quotes self.own _ is }
+pub returns-clause-law : goal.returns-clause-law
+returns-clause-law c =
+    let slots = c.args.self.now in
+    best_law c.args.side slots.quotes slots.own.own _ (at_first c.args.side slots.quotes _ c.in_ok-place.ensures.place)

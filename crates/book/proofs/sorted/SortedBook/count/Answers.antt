@@ -1,9 +1,10 @@
-use Rattle.std.proofs.Common.{arith}
-use Rattle.book.proofs.Laddering.{sound, length_poured}
-use Rattle.book.proofs.Tested.{laddered}
+use Rattle.std.proofs.Common.{length, ap, arith}
+use Rattle.book.proofs.Laddering.{length_poured}
 use Rattle.book.proofs.sorted.SortedBook.count.Goals as goal
 
 pub returns : goal.returns
 returns c =
-    let l = laddered _ _ _ c.args.self.now.laddered in
-    record { count = omega (arith, length_poured l, c.len.ensures.count, c.len-2.ensures.count); few = omega (arith, l.few, c.len.ensures.count, c.len-2.ensures.count); sound = sound l }
+    let l = c.args.self.now.laddered in
+    let buys = ap length c.as_slice.ensures in
+    let sells = ap length c.as_slice-2.ensures in
+    record { count = omega (arith, length_poured l, buys, sells); few = omega (arith, l.few, buys, sells) }
