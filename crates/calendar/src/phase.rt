@@ -50,6 +50,7 @@ impl Stretch {
     }
 
     // What it answers for the minutes that it holds: a phase number other than 1 or 2 means closed.
+    // No `From`: for any other minute a stretch means no phase.
     pub fn answer(&self) -> Phase
         ensures { result ≡ phase_of self.now.phase self.now.day }
     {

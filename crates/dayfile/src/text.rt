@@ -13,6 +13,7 @@ fn fields_of<'a>(heap: Global, bytes: &'a [u8], line: u32) -> Result<Vec<Field<'
     ensures { IfOk result (λ v. map place_of v.items ≡ fields line bytes.now) }
 {
     let mut out = Vec::new(heap);
+    // moves on by a piece's length, so no count of the turns stands for it
     let mut column = 1;
     for piece in bytes.split(|b| *b == b',') {
         out.push(Field {
