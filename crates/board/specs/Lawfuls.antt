@@ -14,9 +14,11 @@ use Rattle.board.specs.declared.quote.Quote.{Quote}
 use Rattle.board.specs.Board.{Sides, OfMaker, OwnSlots, Lawful, set_slot, no_quotes}
 use Rattle.board.specs.Kinds.{one_admitted, one_maker, all_but}
 
+-- no slot of an empty row holds a quote
 pub none_at : (i : ℕ) → slice_index_or no_quotes i None ≡ None
 none_at i = grind (arith, get_or-replicate {A = Option Quote} 16 i None None, get_or_past no_quotes i None)
 
+-- an empty row keeps to its makers
 pub own_none : OwnSlots no_quotes
 own_none = record { sixteen = refl; own = λ i q h. let n = none_at i in cc; some = λ i q h. let n = none_at i in cc }
 
@@ -29,6 +31,7 @@ own_set slots old maker o own some =
       some = λ i q is. grind (arith, nat_tests, elements, set_past slots (maker - 1) o, old.some i q, some q, cases_eq i (maker - 1));
     }
 
+-- the board of one maker
 pub sole_lawful : (maker : ℕ) (quotes : BySide (Option Quote)) → ((side : Side) → OfMaker maker (on_side side quotes)) → Lawful (one_admitted maker) (one_maker maker quotes)
 sole_lawful maker quotes own =
     record {
@@ -37,5 +40,6 @@ sole_lawful maker quotes own =
       sells = own_set no_quotes own_none maker quotes.sell (λ q is. (own Sell q is).0) (λ q is. (own Sell q is).1);
     }
 
+-- a board that admits one maker less
 pub all_but_lawful : (admitted : ℕ → Bool) (s : Sides) (maker : ℕ) → Lawful admitted s → Lawful (all_but admitted maker) s
 all_but_lawful admitted s maker old = record { makers = λ m out. and_left (admitted m) _ (old.makers m out); buys = old.buys; sells = old.sells }

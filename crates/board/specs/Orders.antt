@@ -7,12 +7,15 @@ use Rattle.board.specs.declared.quote.Quote.{Quote}
 use Rattle.board.specs.declared.quote.SideQuote.{SideQuote}
 use Rattle.board.specs.Ranks.{key, ranks_before, before_on, entry_before}
 
+-- what comes before an entry comes before all that the entry comes before
 pub entry_onward : (e f g : SideQuote) → entry_before e f ≡ true → entry_before f g ≡ true → entry_before e g ≡ true
 entry_onward e f g = sides_onward ranks_before (λ s p q r. ranks_onward s (key p) (key q) (key r)) e.side f.side g.side e.quote f.quote g.quote
 
+-- nothing comes before itself
 pub entry_never : (e : SideQuote) → entry_before e e ≡ false
 entry_never e = sides_never ranks_before (λ s p. ranks_never s (key p)) e.side e.quote
 
+-- between two makers the rank decides
 pub entry_decided : (e f : SideQuote) → (e.quote.maker ≢ f.quote.maker) → entry_before e f ≡ not (entry_before f e)
 entry_decided e f = sides_decided ranks_before (λ q. q.maker) (λ s p q. ranks_decided s (key p) (key q)) e.side f.side e.quote f.quote
 

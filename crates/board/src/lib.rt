@@ -3,7 +3,7 @@
 
 ghost use Rattle.std.specs.Prelude.{◌≡◌, ℕ, Bool, is_ok, if◌then◌else◌};
 ghost use Rattle.terms.specs.BySide.{on_side};
-ghost use Rattle.board.specs.Board.{Sides, Lawful, slot_of, put_answer, putting, lifting, take_answer, taking, clear, best, Best};
+ghost use Rattle.board.specs.Board.{Sides, Lawful, slot_of, may_put, put_answer, putting, lifting, may_take, take_answer, taking, clear, best, Best};
 
 mod laws;
 pub mod quote;
@@ -49,6 +49,7 @@ pub trait Board {
     // Puts a quote in place of its maker's old one, unless the maker is not admitted or the size is 0.
     fn put(&mut self, side: Side, quote: Quote) -> Result<(), BoardRefusal>
         ensures answer { result ≡ put_answer (admitted self.old) quote }
+        ensures can { is_ok result ≡ may_put (admitted self.old) quote }
         ensures after { sides self.new ≡ (if is_ok result then putting side quote (sides self.old) else sides self.old) }
         ensures makers { admitted self.new ≡ admitted self.old };
 
@@ -64,6 +65,7 @@ pub trait Board {
     // Takes a size from a maker's quote, unless there is none or it has less. A quote of size 0 is gone.
     fn take(&mut self, side: Side, maker: u32, size: u32) -> Result<(), BoardRefusal>
         ensures answer { result ≡ take_answer size (slot_of maker (on_side side (sides self.old))) }
+        ensures can { is_ok result ≡ may_take size (slot_of maker (on_side side (sides self.old))) }
         ensures after { sides self.new ≡ (if is_ok result then taking side maker size (sides self.old) else sides self.old) }
         ensures makers { admitted self.new ≡ admitted self.old };
 

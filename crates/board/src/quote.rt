@@ -18,6 +18,7 @@ impl Quote {
     ghost use Rattle.board.specs.Board.{less, left_of};
     ghost use Rattle.board.specs.Ranks.{key, ranks_before};
 
+    // What ranks it. No `From`: a quote says more.
     fn key(&self) -> PriceTime
         ensures { result ≡ key self.now }
     {

@@ -31,7 +31,7 @@ impl Slots {
         *self.quotes.get(place as usize)?
     }
 
-    // Writes a maker's slot, if there is one.
+    // Writes a maker's slot, if there is one: by place, since `get_mut` would nest two tests.
     fn set(&mut self, maker: u32, slot: Option<Quote>)
         requires own { (q : Quote) → slot ≡ Some q → q.maker ≡ maker }
         requires some { (q : Quote) → slot ≡ Some q → 0 < q.size }

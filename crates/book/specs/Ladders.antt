@@ -55,6 +55,7 @@ abbrev pub wake_found : ℕ → ℕ → List Order → Option Order → List Ord
 wake_found number moment orders None = orders
 wake_found number moment orders (Some o) = cond o.waiting (enter (woken_at moment o) (without number orders)) orders
 
+-- the same of whatever stands under the number
 abbrev pub wake_ranked : ℕ → ℕ → List Order → List Order
 wake_ranked number moment orders = wake_found number moment orders (find number orders)
 

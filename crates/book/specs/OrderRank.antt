@@ -33,5 +33,6 @@ by_limit_never : (a : Bool) (s : Side) (p : Order) → by_limit a a s p p ≡ fa
 by_limit_never false s p = earlier_never (key p)
 by_limit_never true s p = ranks_never s (key p)
 
+-- nothing comes before itself
 pub before_never : (p : Order) → order_before p p ≡ false
 before_never p = sides_never ranks_before (λ s p. by_limit_never (limited p.kind) s p) p.side p

@@ -18,6 +18,7 @@ add_refusal capacity o orders =
     else if nat_lt 0 o.left then None
     else Some NoSize
 
+-- what stands against taking a size off an order, if it is live
 abbrev pub too_large : ℕ → Option Order → Option BookRefusal
 too_large size None = Some NotLive
 too_large size (Some o) = if nat_le size o.left then None else Some TooLarge
@@ -26,6 +27,7 @@ too_large size (Some o) = if nat_le size o.left then None else Some TooLarge
 abbrev pub cut_refusal : ℕ → ℕ → List Order → Option BookRefusal
 cut_refusal number size orders = too_large size (find number orders)
 
+-- what stands against waking an order, if it is live
 abbrev pub already_up : Option Order → Option BookRefusal
 already_up None = Some NotLive
 already_up (Some o) = if o.waiting then None else Some InForce

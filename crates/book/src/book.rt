@@ -51,10 +51,11 @@ pub trait Book {
         ensures orders { orders self.new ≡ woken number moment (orders self.old) }
         ensures capacity { capacity self.new ≡ capacity self.old };
 
-    // The lowest waiting number that the levels wake.
+    // The lowest waiting number that two levels wake, which a struct for both would only hold to be taken apart.
     fn lowest_waking(&self, sells: Option<u32>, buys: Option<u32>) -> Option<u32>
         ensures { result ≡ lowest_waking sells buys (orders self.now) };
 
+    // What holds of every book, whatever is done with it.
     ghost sound: { (b : Self) → Sound (capacity b) (orders b) };
 }
 
@@ -72,6 +73,7 @@ pub fn empty<B: Book>(book: &mut B)
     ensures capacity { B.Book.capacity book.new ≡ B.Book.capacity book.old }
 {
     while let Some(order) = lowest_order(book) {
+        // never refused: the order is live
         let _ = book.cut(order.number, order.left);
     }
 }

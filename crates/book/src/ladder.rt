@@ -29,11 +29,7 @@ pub(crate) struct Ladder {
 fn is_ahead(order: &Order, other: &Order) -> bool
     ensures { result ≡ ahead order.now other.now }
 {
-    match (order.waiting, other.waiting) {
-        (false, true) => true,
-        (true, false) => false,
-        _ => order.precedes(other),
-    }
+    order.waiting < other.waiting || order.waiting == other.waiting && order.precedes(other)
 }
 
 // Puts what is left of an order in its place, or takes it out where nothing is left.

@@ -4,7 +4,6 @@
 pub mod book;
 mod ladder;
 pub mod order;
-pub mod ranks;
 pub mod refusal;
 pub mod sorted;
 #[cfg(test)]

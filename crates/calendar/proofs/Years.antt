@@ -14,7 +14,7 @@ leap_is year lo hi = grind (arith, nat_tests)
 length_is : (k : ℕ) → k < 76 → year_length (2024 + k) ≡ new_year (k + 1) - new_year k
 length_is k h = let e = leap_is (2024 + k) (omega arith) (omega arith) in grind (arith, nat_tests)
 
-pub days_of_years_is : (k : ℕ) → k ≤ 76 → days_of_years k ≡ new_year k
+days_of_years_is : (k : ℕ) → k ≤ 76 → days_of_years k ≡ new_year k
 unfolding days_of_years
 days_of_years_is zero h = refl
 days_of_years_is (suc k) h = let e : days_of_years k ≡ new_year k = days_of_years_is k (omega arith) in omega (arith, length_is k (omega arith))
@@ -31,7 +31,7 @@ year_from_is (suc n) j k day lo hi few h =
     let later : j + 1 ≤ k → year_from n (2024 + (j + 1)) (day - new_year (j + 1)) ≡ 2024 + k = λ lt. year_from_is n (j + 1) k day lt (omega arith) (omega arith) h in
     grind (arith, nat_tests)
 
-pub year_of_is : (k day : ℕ) → k < 20 → InYear k day → year_of day ≡ 2024 + k
+year_of_is : (k day : ℕ) → k < 20 → InYear k day → year_of day ≡ 2024 + k
 year_of_is k day lt h = simp sub-zero at (year_from_is 20 0 k day (omega arith) (omega arith) (omega arith) h)
 
 -- the year by division

@@ -69,7 +69,7 @@ impl Year {
     }
 
     pub(crate) fn second_sunday_of_march(self) -> u32
-        ensures low { result < 7500 }
+        ensures low { result < 8000 + 14 }
         ensures sunday { result ≡ nth_sunday 2 self.number march }
     {
         sunday_from(self.first_of_march()) + 7
@@ -79,8 +79,8 @@ impl Year {
 // The first Sunday that is not before the day.
 #[tactic(auto, unfolding(crate::specs::Civil::first_sunday_from))]
 fn sunday_from(day: u32) -> u32
-    requires { day < 7400 }
-    ensures low { result < 7400 + 7 }
+    requires { day < 8000 }
+    ensures low { result < 8000 + 7 }
     ensures sunday { result ≡ first_sunday_from day }
 {
     day + (6 - day % 7)

@@ -10,7 +10,7 @@ pub enum Phase {
 }
 
 impl Phase {
-    // The number by which a line of the tape shows it.
+    // The number by which a line of the tape shows it. No cast: two of the cases carry a day.
     pub fn number(&self) -> u32
         ensures { result ≡ phase_number self.now }
     {

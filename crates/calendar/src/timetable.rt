@@ -66,7 +66,7 @@ impl SessionDay {
     }
 }
 
-// A Monday is 2 January after a Sunday.
+// A Monday is 2 January after a Sunday. By what decides and not by `SessionDay`, as the definition has it.
 fn starts_on(weekday: Weekday, day: u32, new_year: u32) -> bool
     requires { new_year < 7305 }
     ensures { result ≡ starts_on weekday day new_year }

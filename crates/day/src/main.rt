@@ -9,9 +9,10 @@ use calendar::{Group, Timetable};
 use play::day_text;
 use std::io;
 use std::io::Read;
+use terms::LONGEST_FILE;
 
 // One byte more than a day file may have shows that it is too long.
-const MOST_READ: u64 = 65_537;
+const MOST_READ: u64 = LONGEST_FILE as u64 + 1;
 
 fn main(rt: HostRuntime) -> io::Result<()> {
     let mut file = Vec::new(rt.alloc());

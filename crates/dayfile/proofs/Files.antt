@@ -23,7 +23,7 @@ length_rows_from line [] = refl
 length_rows_from line (l ∷ ls) = omega (arith, length_rows_from (line + 1) ls)
 
 -- a file has at most one row more than bytes
-pub length_rows : (file : List ℕ) → length (rows file) ≤ length file + 1
+length_rows : (file : List ℕ) → length (rows file) ≤ length file + 1
 length_rows file = omega (arith, length_rows_from 1 (lines file), length_without (split 10 file), length-slice_split (λ b. eqb b 10) file, count_by-le-length (λ b. eqb b 10) file)
 
 some_line : (b : ℕ) (v : Bool) (ps : List (List ℕ)) → 0 < length ps → 0 < length (without_empty_end (cond v ([] ∷ ps) (onto_first b ps)))

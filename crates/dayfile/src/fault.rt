@@ -17,6 +17,7 @@ pub enum Fault {
 }
 
 impl Fault {
+    // No cast: three of the cases carry a place.
     pub fn number(&self) -> u32
         ensures { result ≡ fault_number self.now }
     {

@@ -2,7 +2,7 @@
 ghost use Rattle.std.specs.Prelude.{◌≡◌};
 ghost use Rattle.dayfile.specs.Text.{kind_of, token_kind, token_bytes};
 
-// What a field of a day file holds, as a part of the file's own bytes.
+// What a field of a day file holds, as a part of the file's own bytes: each case is read in its own way.
 #[derive(Clone, Copy, Debug)]
 pub enum Token<'a> {
     Word(&'a [u8]),

@@ -1,22 +1,30 @@
 // The text of tape lines and faults.
-ghost use Rattle.std.specs.Prelude.{◌≡◌, ◌<◌, ◌∷◌, IfOk, Some, string_bytes};
+ghost use Rattle.std.specs.Prelude.{◌≡◌, ℕ, ◌<◌, List, ◌∷◌, IfOk, Some, string_bytes};
 ghost use Rattle.dayfile.specs.Print.{columns, letter_of, line_row, fault_row, refusal_row};
 
 use crate::fault::Fault;
 use machine::{Line, Refusal};
 use std::alloc::{AllocError, Global};
 use std::fmt;
+use std::marker::Model;
 
-// A row of the tape: a letter and six numbers.
-#[derive(Clone, Copy)]
+// A row of the tape: a letter and six numbers, which stand for the bytes that it shows.
+#[derive(Drop)]
 pub struct TapeRow {
     letter: char,
     numbers: [u32; 6],
-    ghost ascii: { letter < 128 },
+}
+
+impl Model for TapeRow {
+    ghost Value = { List ℕ };
+
+    ghost view = { λ r. r.letter ∷ columns r.numbers };
+
+    ghost invariant = { λ r. r.letter < 128 };
 }
 
 impl fmt::Display for TapeRow {
-    ghost output = { λ r. Some (r.letter ∷ columns r.numbers) };
+    ghost output = { λ r. Some r };
 
     fn fmt<W: fmt::Write>(&self, f: &mut fmt::Formatter<W>) -> fmt::Result {
         write!(f, "{}", self.letter)?;
@@ -45,7 +53,7 @@ pub fn letter(kind: u8) -> char
 }
 
 impl From<&Line> for TapeRow {
-    ghost from_gives = { λ line r. r.letter ∷ columns r.numbers ≡ line_row line.now };
+    ghost from_gives = { λ line r. r ≡ line_row line.now };
 
     fn from(line: &Line) -> Self {
         TapeRow {
@@ -63,7 +71,7 @@ impl From<&Line> for TapeRow {
 }
 
 impl From<&Fault> for TapeRow {
-    ghost from_gives = { λ fault r. r.letter ∷ columns r.numbers ≡ fault_row fault.now };
+    ghost from_gives = { λ fault r. r ≡ fault_row fault.now };
 
     fn from(fault: &Fault) -> Self {
         TapeRow {
@@ -83,7 +91,7 @@ impl From<&Fault> for TapeRow {
 impl TapeRow {
     // A refusal of the market stands in layer 4, at the line of its call.
     pub fn refused(why: &Refusal, line: u32) -> Self
-        ensures { result.letter ∷ columns result.numbers ≡ refusal_row why.now line }
+        ensures { result ≡ refusal_row why.now line }
     {
         TapeRow {
             letter: 'E',
@@ -92,6 +100,7 @@ impl TapeRow {
     }
 }
 
+// The text of a row alone, of each kind of row: a caller has no need of the row then.
 pub fn line_text(heap: Global, line: &Line) -> Result<String, AllocError>
     ensures { IfOk result (λ t. string_bytes t ≡ line_row line.now) }
 {

@@ -86,10 +86,10 @@ fn call_of(fields: &[Field<'_>], line: u32) -> Result<Call, Fault>
 {
     let count = Fault::FieldCount { line };
     let (word, rest) = fields.split_first().ok_or(count)?;
-    let Ok(rest) = <[Field<'_>; NUMBERS]>::try_from(rest) else {
+    let Ok(rest) = <&[Field<'_>; NUMBERS]>::try_from(rest) else {
         return Err(count);
     };
-    call_in(word, &rest)
+    call_in(word, rest)
 }
 
 // The calls of the rows behind the names line, up to the first fault.

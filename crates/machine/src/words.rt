@@ -1,16 +1,31 @@
+// The words of the market.
+ghost use Rattle.std.specs.Prelude.{◌≡◌};
+
+use calendar::Phase;
+
 // One call of a venue.
 #[derive(Clone, Copy, Debug, PartialEq, Eq)]
 pub enum Call {
     Turn { minute: u32 },
 }
 
-// Why a call is refused.
+// Why a call is refused, by its number.
 #[derive(Clone, Copy, Debug, PartialEq, Eq)]
 pub enum Refusal {
-    TapeTooShort,
-    MomentsSpent,
-    MinuteTooLate,
-    MinuteBeforeHeld,
+    TapeTooShort = 1,
+    MomentsSpent = 2,
+    MinuteTooLate = 3,
+    MinuteBeforeHeld = 4,
+}
+
+impl Refusal {
+    ghost use Rattle.machine.specs.Words.{refusal_number};
+
+    pub fn number(&self) -> u32
+        ensures { result ≡ refusal_number self.now }
+    {
+        *self as u32
+    }
 }
 
 // One line of the tape. A field that its kind does not name is 0.
@@ -27,6 +42,8 @@ pub struct Line {
 }
 
 impl Line {
+    ghost use Rattle.machine.specs.Words.{turn_line};
+
     // The kind of a line that a turn writes.
     pub const TURN: u8 = 1;
 
@@ -40,4 +57,16 @@ impl Line {
         size: 0,
         moment: 0,
     };
+
+    // The line of a turn: T with the number of the new phase.
+    pub fn turn(phase: Phase, moment: u32) -> Line
+        ensures { result ≡ turn_line phase moment }
+    {
+        Line {
+            kind: Line::TURN,
+            number: phase.number(),
+            moment,
+            ..Line::BLANK
+        }
+    }
 }

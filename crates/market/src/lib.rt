@@ -15,7 +15,7 @@ use terms::{LAST_MINUTE, LEAST_ROOM, MOMENT_LIMIT};
 mod tests;
 
 // What a market holds between calls: the minute and phase of the last turn, the session day (0 if closed),
-// and the moment, which each accepted call raises by one.
+// and the moment, which each accepted call raises by one. The day stands in the phase too: a caller is spared to look.
 #[derive(Clone, Copy)]
 pub struct Held {
     pub minute: u32,
@@ -92,6 +92,7 @@ impl<C: Calendar> Market<C> {
         ensures law { TurnLaw (C.Calendar.hours self.old.calendar) (length tape.old) minute (state_of self.old) (step (C.Calendar.hours self.old.calendar) (length tape.old) (Turn minute) (state_of self.old)) }
     {
         self.may_turn(minute, tape.len())?;
+        // the cases of the rules, though each holds the answer
         match (self.phase, self.calendar.phase(minute)) {
             // nothing to close
             (Phase::Closed, Phase::Closed) => {}

@@ -77,6 +77,7 @@ fn leader<S: Slot>(slots: &[S], pick: S::Pick) -> Option<(usize, S::Entry)>
     ensures first { result ≡ leader S.Entry.Ranked.before (map (S.Slot.stands pick) slots.now) }
     ensures law { Finds S.Entry.Ranked.before (map (S.Slot.stands pick) slots.now) (option_map (λ p. p.0) result) }
 {
+    // a `fold` was tried: it leaves both clauses open, and no short answer closes them
     let mut best = None;
     for (i, slot) in slots.iter().enumerate() {
         best = next_best(best, i, slot.standing(pick));

@@ -5,6 +5,7 @@ use Rattle.terms.specs.declared.by_side.BySide.{BySide}
 use Rattle.terms.specs.declared.side.Side.{Side}
 use Rattle.terms.specs.declared.side.Side.TheVariants.{Buy, Sell}
 
+-- the thing of a side
 abbrev pub on_side : {T : Type 0} → Side → BySide T → T
 on_side Buy both = both.buy
 on_side Sell both = both.sell

@@ -36,6 +36,7 @@ pub const LARGEST_SIZE: u32 = 1_000_000;
 // Members are numbered from 1 to this.
 pub const LAST_OWNER: u32 = 65_535;
 
+// Four tests of one line each: one with the range as a parameter would make each caller say it.
 pub fn is_price(number: u32) -> bool
     ensures { result ≡ is_price number }
 {

@@ -1,11 +1,11 @@
 // The sides of a quote or an order.
 ghost use Rattle.std.specs.Prelude.{◌≡◌};
 
-// Buys stand before sells where both are ranked.
+// Each with its number. Buys stand before sells where both are ranked.
 #[derive(Clone, Copy, Debug, PartialEq, Eq, PartialOrd, Ord)]
 pub enum Side {
-    Buy,
-    Sell,
+    Buy = 1,
+    Sell = 2,
 }
 
 // A number that is no side's.
@@ -36,10 +36,7 @@ impl From<Side> for u32 {
     ghost from_gives = { λ side number. number ≡ side_number side };
 
     fn from(side: Side) -> u32 {
-        match side {
-            Side::Buy => 1,
-            Side::Sell => 2,
-        }
+        side as u32
     }
 }
 
