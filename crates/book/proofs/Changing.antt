@@ -14,7 +14,7 @@ use Rattle.book.proofs.Placed.{split, distinct_parts, distinct_from, find_skip, 
 
 -- a test that holds of every order
 module _ (p : Order → Bool) where
-  all_place : (o : Order) (os : List Order) → p o ≡ true → list_all p os ≡ true → list_all p (place o os) ≡ true
+  pub all_place : (o : Order) (os : List Order) → p o ≡ true → list_all p os ≡ true → list_all p (place o os) ≡ true
   all_place o [] one all = and_from _ _ one all
   all_place o (x ∷ xs) one all =
       let parts = and_parts (p x) (list_all p xs) all in
