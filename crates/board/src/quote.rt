@@ -36,7 +36,7 @@ impl Quote {
         self.key().ranks_before(other.key(), side)
     }
 
-    // What is left of it with so much less; nothing at size 0.
+    // What is left of it with so much less; nothing at size 0. As of an order, but of another field: a trait would be longer.
     pub fn less(self, size: u32) -> Option<Quote>
         ensures { result ≡ less size self }
     {
@@ -78,6 +78,7 @@ impl Ranked for SideQuote {
 
     ghost decided = { entry_decided };
 
+    // As orders do: one `impl` for all that has a side would bar entries that have none.
     fn precedes(&self, other: &SideQuote) -> bool {
         self.side < other.side
             || self.side == other.side && self.quote.ranks_before(&other.quote, self.side)

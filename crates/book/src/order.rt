@@ -96,7 +96,7 @@ impl Order {
         })
     }
 
-    // Whether two levels wake it: a sell with its trigger at or above the first, a buy with its own at or below the second.
+    // Whether two levels, as `Book::lowest_waking` is given them, wake it: a sell with its trigger at or above the first, a buy with its own at or below the second.
     pub fn wakes(&self, sells: Option<u32>, buys: Option<u32>) -> bool
         ensures { result ≡ wakes sells buys self.now }
     {

@@ -30,7 +30,7 @@ impl Fault {
         }
     }
 
-    // 1 file, 2 line, 3 field.
+    // The number that a fault row shows: 1 file, 2 line, 3 field.
     pub fn layer(&self) -> u32
         ensures { result ≡ fault_layer self.now }
     {

@@ -47,7 +47,7 @@ fn number_of(field: &Field<'_>) -> Result<u32, Fault>
 // How many numbers stand behind the call word.
 const NUMBERS: usize = 10;
 
-// The numbers of ten fields, or the leftmost fault, which `try_map` does not promise.
+// The numbers of ten fields, or the leftmost fault. By place: `try_map` does not promise the leftmost, and over `iter_mut().zip(..)` the early return stayed open.
 fn numbers_of(fields: &[Field<'_>; NUMBERS]) -> Result<[u32; NUMBERS], Fault>
     ensures { result ≡ numbers (map place_of fields.now) }
 {

@@ -29,7 +29,7 @@ impl Refusal {
 }
 
 // One line of the tape. A field that its kind does not name is 0.
-// `kind` and `side` are numbers: the tape is stored as it is printed, and no side is 0.
+// `kind` and `side` are numbers, as a line is kept: a kind may be one that has no letter, and a side 0, where there is none.
 #[derive(Clone, Copy, Debug, PartialEq, Eq)]
 pub struct Line {
     pub kind: u8,

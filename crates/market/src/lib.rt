@@ -92,7 +92,7 @@ impl<C: Calendar> Market<C> {
         ensures law { TurnLaw (C.Calendar.hours self.old.calendar) (length tape.old) minute (state_of self.old) (step (C.Calendar.hours self.old.calendar) (length tape.old) (Turn minute) (state_of self.old)) }
     {
         self.may_turn(minute, tape.len())?;
-        // the cases of the rules, though each holds the answer
+        // by case, as what a turn does to orders goes by both phases; a market without orders only holds the answer
         match (self.phase, self.calendar.phase(minute)) {
             // nothing to close
             (Phase::Closed, Phase::Closed) => {}
