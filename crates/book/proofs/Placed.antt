@@ -207,7 +207,7 @@ wake_place n moment o (p ∷ ps) is none =
 found_in : (n : ℕ) (xs ys : List Order) → find n (xs ++ ys) ≡ option_or (find n xs) (find n ys)
 found_in n = find-append (λ o. o.number == n)
 
-find_append_none : (n : ℕ) (xs ys : List Order) → find n xs ≡ None → find n ys ≡ None → find n (xs ++ ys) ≡ None
+pub find_append_none : (n : ℕ) (xs ys : List Order) → find n xs ≡ None → find n ys ≡ None → find n (xs ++ ys) ≡ None
 find_append_none n xs ys here there = found_in n xs ys ∙ ap (λ f. option_or f (find n ys)) here ∙ there
 
 pub find_append_parts : (n : ℕ) (xs ys : List Order) → find n (xs ++ ys) ≡ None → (find n xs ≡ None) × (find n ys ≡ None)
@@ -221,7 +221,7 @@ pub find_append_some : (n : ℕ) (o : Order) (xs ys : List Order) → find n xs 
 find_append_some n o xs ys here = found_in n xs ys ∙ ap (λ f. option_or f (find n ys)) here
 
 -- an order among the others
-pour_middle : (o : Order) (xs ys ps : List Order) → find o.number xs ≡ None → pour (xs ++ o ∷ ys) ps ≡ place o (pour (xs ++ ys) ps)
+pub pour_middle : (o : Order) (xs ys ps : List Order) → find o.number xs ≡ None → pour (xs ++ o ∷ ys) ps ≡ place o (pour (xs ++ ys) ps)
 pour_middle o [] ys ps none = refl
 pour_middle o (x ∷ xs) ys ps none =
     let parts = find_past o.number x xs none in

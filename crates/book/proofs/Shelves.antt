@@ -1,7 +1,8 @@
 -- The two ladders of a book, and what a change of one makes of both. Assumes nothing.
-use Rattle.std.proofs.Common.{◌≡◌, ℕ, ◌<◌, true, ◌==◌, List, Some, None, length, sym, refl, ap, ◌∙◌, subst, ⊎_elim, arith}
+use Rattle.std.proofs.Common.{◌≡◌, ℕ, ◌<◌, true, ◌==◌, List, Some, None, Ok, Err, Result, MatchResult, length, sym, refl, ap, ◌∙◌, subst, ⊎_elim, arith}
 use Rattle.std.proofs.lemmas.List.Folds.{find-append}
-use Rattle.std.specs.Option.{option_or}
+use Rattle.std.specs.Option.{option_map, option_or}
+use Rattle.std.specs.Result.{result_ok}
 use Rattle.terms.specs.BySide.{on_side, with_side}
 use Rattle.terms.specs.Side.{other_side}
 use Rattle.terms.specs.declared.by_side.BySide.{BySide}
@@ -9,13 +10,15 @@ use Rattle.terms.specs.declared.side.Side.{Side}
 use Rattle.terms.specs.declared.side.Side.TheVariants.{Buy, Sell}
 use Rattle.book.specs.declared.ladder.Ladder.{Ladder}
 use Rattle.book.specs.declared.order.Order.{Order}
-use Rattle.book.specs.Ladders.{all_of_side, enter, end_in_force, Laddered, poured, wake_ranked}
+use Rattle.book.specs.declared.refusal.BookRefusal.{BookRefusal}
+use Rattle.book.specs.declared.refusal.BookRefusal.TheVariants.{NotLive}
+use Rattle.book.specs.Ladders.{all_of_side, enter, end_in_force, Laddered, Stands, poured, wake_ranked}
 use Rattle.book.specs.Orders.{Sound, same_side, find, place, first_of, cut, woken}
 use Rattle.book.specs.Sorted.{StandsOn}
 use Rattle.book.proofs.Books.{find_here, cut_here, wake_here}
-use Rattle.book.proofs.Changing.{all_found}
+use Rattle.book.proofs.Changing.{all_found, found_number}
 use Rattle.book.proofs.Laddering.{sound, find_poured, first_poured, other_way, poured_other_way, length_poured, enter_laddered, enter_poured}
-use Rattle.book.proofs.Placed.{find_append_parts, found_or_not}
+use Rattle.book.proofs.Placed.{find_append_none, find_append_parts, found_or_not}
 
 abbrev pub held : BySide Ladder → List Order
 held both = poured both.buy.orders.items both.sell.orders.items
@@ -106,3 +109,30 @@ on_its_side both l number o found =
     let this : find number sells ≡ Some o = sym (ap (λ f. option_or f (find number sells)) none) ∙ either in
     subst (λ s. StandsOn number s both) (sym (side_is number Sell o sells l.others_side this)) (o, this))
     (found_or_not (find number buys))
+
+own_all : (side : Side) (both : BySide Ladder) → Kept both → all_of_side side (own side both) ≡ true
+own_all Buy both l = l.own_side
+own_all Sell both l = l.others_side
+
+-- an order that stands on a side is of that side
+pub stands_on_its_side : (side : Side) (both : BySide Ladder) → Kept both → (number place : ℕ) (o : Order) → Stands number (on_side side both).orders.items place o → Stands number (on_side o.side both).orders.items place o
+stands_on_its_side side both l number place o s =
+    subst (λ t. Stands number (on_side t both).orders.items place o) (sym (side_is number side o _ (own_all side both l) s.here)) s
+
+-- a number that is no buy's is a sell's, or is not live
+pub stands_on_sells : (both : BySide Ladder) → Kept both → (number : ℕ) → find number both.buy.orders.items ≡ None → (r : Result (ℕ × Order) BookRefusal) → MatchResult r (λ p. Stands number both.sell.orders.items p.0 p.1) (λ why. (why ≡ NotLive) × (find number both.sell.orders.items ≡ None)) → MatchResult r (λ p. Stands number (on_side p.1.side both).orders.items p.0 p.1) (λ why. (why ≡ NotLive) × (find number (held both) ≡ None))
+stands_on_sells both l number none (Ok p) s = stands_on_its_side Sell both l number p.0 p.1 s
+stands_on_sells both l number none (Err why) h = (h.0, find_poured l number ∙ find_append_none number both.buy.orders.items both.sell.orders.items none h.1)
+
+-- it stands under its order's own number
+pub own_number : {number place : ℕ} {o : Order} {os : List Order} → Stands number os place o → o.number ≡ number
+own_number {number} {place} {o} {os} s = found_number number o os s.here
+
+-- which is the number that it is read under on its side
+pub stands_lent : {number place : ℕ} {o : Order} {os : List Order} (lent : Ladder) → lent.orders.items ≡ os → Stands number os place o → Stands o.number lent.orders.items place o
+stands_lent {number} {place} {o} {os} lent is s = subst (λ n. Stands n lent.orders.items place o) (sym (own_number s)) (subst (λ l. Stands number l place o) (sym is) s)
+
+-- the order that is found is the one of the number
+pub found_live : (both : BySide Ladder) → Kept both → (number : ℕ) (r : Result (ℕ × Order) BookRefusal) → MatchResult r (λ p. Stands number (on_side p.1.side both).orders.items p.0 p.1) (λ why. (why ≡ NotLive) × (find number (held both) ≡ None)) → (place : ℕ) (o : Order) → Some (place, o) ≡ result_ok r → Some o ≡ find number (held both)
+found_live both l number (Ok found) s i o is = ap (option_map (λ q. q.1)) is ∙ sym (found_on_side found.1.side both l number (found.1, s.here) ∙ s.here)
+found_live both l number (Err why) h i o is = cc

@@ -89,7 +89,7 @@ impl Ladder {
     }
 
     // The place of a live number, with its order.
-    fn live(&self, number: u32) -> Result<(usize, Order), BookRefusal>
+    pub(crate) fn live(&self, number: u32) -> Result<(usize, Order), BookRefusal>
         ensures { MatchResult result
             (λ p. Stands number self.now.orders.items p.0 p.1)
             (λ why. (why ≡ NotLive) × (find number self.now.orders.items ≡ None)) }
@@ -98,12 +98,17 @@ impl Ladder {
         Ok((place, self.as_slice()[place]))
     }
 
-    // Takes a size off an order, which is gone at 0.
-    pub(crate) fn cut(&mut self, number: u32, size: u32) -> Result<(), BookRefusal>
-        ensures answer { result ≡ unless (cut_refusal number size self.old.orders.items) }
-        ensures orders { self.new.orders.items ≡ cut number size self.old.orders.items }
+    // Takes a size off the order at a place, which is gone at 0.
+    pub(crate) fn cut(
+        &mut self,
+        place: usize,
+        order: Order,
+        size: u32,
+    ) -> Result<(), BookRefusal>
+        requires { Stands order.number self.old.orders.items place order }
+        ensures answer { result ≡ unless (cut_refusal order.number size self.old.orders.items) }
+        ensures orders { self.new.orders.items ≡ cut order.number size self.old.orders.items }
     {
-        let (place, order) = self.live(number)?;
         if size > order.left {
             return Err(BookRefusal::TooLarge);
         }
@@ -111,12 +116,17 @@ impl Ladder {
         Ok(())
     }
 
-    // Puts a waiting order in force at a moment, in its new place by rank.
-    pub(crate) fn wake(&mut self, number: u32, moment: u32) -> Result<(), BookRefusal>
-        ensures answer { result ≡ unless (wake_refusal number self.old.orders.items) }
-        ensures orders { self.new.orders.items ≡ wake_ranked number moment self.old.orders.items }
+    // Puts the waiting order at a place in force at a moment, in its new place by rank.
+    pub(crate) fn wake(
+        &mut self,
+        place: usize,
+        order: Order,
+        moment: u32,
+    ) -> Result<(), BookRefusal>
+        requires { Stands order.number self.old.orders.items place order }
+        ensures answer { result ≡ unless (wake_refusal order.number self.old.orders.items) }
+        ensures orders { self.new.orders.items ≡ wake_ranked order.number moment self.old.orders.items }
     {
-        let (place, order) = self.live(number)?;
         if !order.waiting {
             return Err(BookRefusal::InForce);
         }

@@ -1,8 +1,9 @@
 // A book that keeps each side in rank order.
 ghost use Rattle.std.specs.Prelude.{◌≡◌, ◌<◌, ◌≤◌, Bool, [], length, None, MatchResult};
 ghost use Rattle.std.specs.Fn.{FnReturnsAt};
+ghost use Rattle.terms.specs.BySide.{on_side};
 ghost use Rattle.terms.specs.declared.side.Side.TheVariants.{Buy};
-ghost use Rattle.book.specs.Ladders.{Laddered, poured};
+ghost use Rattle.book.specs.Ladders.{Laddered, Stands, poured};
 ghost use Rattle.book.specs.declared.order.Order.{Order};
 ghost use Rattle.book.specs.declared.refusal.BookRefusal.TheVariants.{NotLive};
 ghost use Rattle.book.specs.Orders.{Sound, find, place, cut, woken, first_of, First, lowest_by};
@@ -23,7 +24,7 @@ pub struct SortedBook {
 }
 
 impl SortedBook {
-    ghost use Rattle.book.specs.Sorted.{sorted_orders, StandsOn};
+    ghost use Rattle.book.specs.Sorted.{sorted_orders};
 
     pub fn new() -> Self
         ensures { sorted_orders result ≡ [] }
@@ -43,14 +44,23 @@ impl SortedBook {
         self.ladders.buy.as_slice().len() + self.ladders.sell.as_slice().len()
     }
 
+    // The place of a live number on its side, with its order.
+    fn live(&self, number: u32) -> Result<(usize, Order), BookRefusal>
+        ensures { MatchResult result
+            (λ p. Stands number (on_side p.1.side self.now.ladders).orders.items p.0 p.1)
+            (λ why. (why ≡ NotLive) × (find number (sorted_orders self.now) ≡ None)) }
+    {
+        match self.ladders.buy.live(number) {
+            Ok(found) => Ok(found),
+            Err(_) => self.ladders.sell.live(number),
+        }
+    }
+
     fn find_order(&self, number: u32) -> Option<Order>
         ensures { result ≡ find number (sorted_orders self.now) }
     {
-        let (buys, sells) = (self.ladders.buy.as_slice(), self.ladders.sell.as_slice());
-        buys.iter()
-            .chain(sells)
-            .find(|order| order.number == number)
-            .copied()
+        let (_, order) = self.live(number).ok()?;
+        Some(order)
     }
 
     // The lowest number of the orders that pass a test.
@@ -84,30 +94,20 @@ impl SortedBook {
         self.ladders.on_mut(order.side).enter(order);
     }
 
-    // The side of a live number.
-    fn side_of(&self, number: u32) -> Result<Side, BookRefusal>
-        ensures { MatchResult result
-            (λ side. StandsOn number side self.now.ladders)
-            (λ why. (why ≡ NotLive) × (find number (sorted_orders self.now) ≡ None)) }
-    {
-        let order = self.find_order(number).ok_or(BookRefusal::NotLive)?;
-        Ok(order.side)
-    }
-
     fn cut_order(&mut self, number: u32, size: u32) -> Result<(), BookRefusal>
         ensures answer { result ≡ unless (cut_refusal number size (sorted_orders self.old)) }
         ensures orders { sorted_orders self.new ≡ cut number size (sorted_orders self.old) }
     {
-        let side = self.side_of(number)?;
-        self.ladders.on_mut(side).cut(number, size)
+        let (place, order) = self.live(number)?;
+        self.ladders.on_mut(order.side).cut(place, order, size)
     }
 
     fn wake_order(&mut self, number: u32, moment: u32) -> Result<(), BookRefusal>
         ensures answer { result ≡ unless (wake_refusal number (sorted_orders self.old)) }
         ensures orders { sorted_orders self.new ≡ woken number moment (sorted_orders self.old) }
     {
-        let side = self.side_of(number)?;
-        self.ladders.on_mut(side).wake(number, moment)
+        let (place, order) = self.live(number)?;
+        self.ladders.on_mut(order.side).wake(place, order, moment)
     }
 }
 

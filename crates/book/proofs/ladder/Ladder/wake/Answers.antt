@@ -7,10 +7,10 @@ use Rattle.book.proofs.ladder.Ladder.wake.Goals as goal
 pub invariant_of-self : goal.invariant_of-self
 invariant_of-self c =
     let held = c.args.self.now in
-    let is = c.remove.ensures.items ∙ sym c.in_ok-place.ensures.out in
+    let is = c.remove.ensures.items ∙ sym c.requires.out in
     record {
-      in_rank = ap ranked is ∙ ranked_without c.args.number _ held.in_rank;
-      apart = ap distinct is ∙ distinct_without_all c.args.number _ held.apart;
+      in_rank = ap ranked is ∙ ranked_without c.args.order.number _ held.in_rank;
+      apart = ap distinct is ∙ distinct_without_all c.args.order.number _ held.apart;
       few = omega (arith, c.remove.ensures.len, held.few);
     }
 
@@ -19,7 +19,7 @@ enter-requires-clause-room c = omega (arith, c.remove.ensures.len, c.args.self.n
 
 pub enter-requires-clause-new : goal.enter-requires-clause-new
 enter-requires-clause-new c =
-    let stands = c.in_ok-place.ensures in
+    let stands = c.requires in
     ap (find c.woken.result.number) (c.remove.ensures.items ∙ sym stands.out)
-    ∙ ap (λ o. find o.number (without c.args.number c.args.self.now.orders.items)) c.woken.ensures
-    ∙ gone_without_all c.args.number c.in_ok-place.order _ c.args.self.now.apart stands.here
+    ∙ ap (λ o. find o.number (without c.args.order.number c.args.self.now.orders.items)) c.woken.ensures
+    ∙ gone_without_all c.args.order.number c.args.order _ c.args.self.now.apart stands.here
