@@ -19,11 +19,13 @@ pub trait Book {
         ensures answer { result ≡ unless (add_refusal (capacity self.old) order (orders self.old)) }
         ensures can { is_ok result ≡ can_add (capacity self.old) order (orders self.old) }
         ensures orders { orders self.new ≡ added (capacity self.old) order (orders self.old) }
-        ensures capacity { capacity self.new ≡ capacity self.old };
+        ensures capacity { capacity self.new ≡ capacity self.old }
+        ensures sound { Sound (capacity self.new) (orders self.new) };
 
     // How many orders more it takes.
     fn free(&self) -> usize
-        ensures { result ≡ capacity self.now - length (orders self.now) };
+        ensures answer { result ≡ capacity self.now - length (orders self.now) }
+        ensures sound { Sound (capacity self.now) (orders self.now) };
 
     fn order(&self, number: u32) -> Option<Order>
         ensures { result ≡ find number (orders self.now) };
@@ -42,20 +44,22 @@ pub trait Book {
         ensures answer { result ≡ unless (cut_refusal number size (orders self.old)) }
         ensures can { is_ok result ≡ can_cut number size (orders self.old) }
         ensures orders { orders self.new ≡ cut number size (orders self.old) }
-        ensures capacity { capacity self.new ≡ capacity self.old };
+        ensures capacity { capacity self.new ≡ capacity self.old }
+        ensures sound { Sound (capacity self.new) (orders self.new) };
 
     // Puts a waiting order in force at a moment.
     fn wake(&mut self, number: u32, moment: u32) -> Result<(), BookRefusal>
         ensures answer { result ≡ unless (wake_refusal number (orders self.old)) }
         ensures can { is_ok result ≡ can_wake number (orders self.old) }
         ensures orders { orders self.new ≡ woken number moment (orders self.old) }
-        ensures capacity { capacity self.new ≡ capacity self.old };
+        ensures capacity { capacity self.new ≡ capacity self.old }
+        ensures sound { Sound (capacity self.new) (orders self.new) };
 
     // The lowest waiting number that two levels wake, which a struct for both would only hold to be taken apart.
     fn lowest_waking(&self, sells: Option<u32>, buys: Option<u32>) -> Option<u32>
         ensures { result ≡ lowest_waking sells buys (orders self.now) };
 
-    // What holds of every book, whatever is done with it.
+    // What holds of every book, whatever is done with it. Four functions say it too, for a caller that has a `dyn Book` alone.
     ghost sound: { (b : Self) → Sound (capacity b) (orders b) };
 }
 

@@ -99,12 +99,7 @@ impl Ladder {
     }
 
     // Takes a size off the order at a place, which is gone at 0.
-    pub(crate) fn cut(
-        &mut self,
-        place: usize,
-        order: Order,
-        size: u32,
-    ) -> Result<(), BookRefusal>
+    pub(crate) fn cut(&mut self, place: usize, order: Order, size: u32) -> Result<(), BookRefusal>
         requires { Stands order.number self.old.orders.items place order }
         ensures answer { result ≡ unless (cut_refusal order.number size self.old.orders.items) }
         ensures orders { self.new.orders.items ≡ cut order.number size self.old.orders.items }
