@@ -9,7 +9,7 @@ use Rattle.book.specs.Ladders.{ranked, all_of_side, enter, without, pour, lower_
 use Rattle.book.specs.Orders.{Sound, ascends, same_side, find, place, woken_at, cut_from, wake_in, first_of, lowest_by}
 use Rattle.book.proofs.Changing.{all_pour, all_enter, all_without, all_cut, all_found, distinct_enter, distinct_without, distinct_cut, found_number, gone_without, length_enter, length_without, length_cut, pour_enter, pour_without, pour_cut}
 use Rattle.book.proofs.FirstOf.{first_pour, first_append}
-use Rattle.book.proofs.Placed.{pour_append, find_pour, ascends_pour, length_pour, lowest_pour, lowest_append, reduce_lowest, cut_place, wake_place, find_append_parts, find_append_some, distinct_swap, pour_swap}
+use Rattle.book.proofs.Placed.{pour_append, find_pour, ascends_pour, length_pour, lowest_pour, lowest_append, reduce_lowest, cut_place, wake_place, find_append_none, find_append_parts, find_append_some, distinct_swap, pour_swap}
 
 same_self : (s : Side) → same_side s s ≡ true
 same_self Buy = refl
@@ -53,6 +53,9 @@ module _ {side : Side} {own others : List Order} (l : Laddered side own others) 
 
   pub find_own : (number : ℕ) (o : Order) → find number own ≡ Some o → find number (poured own others) ≡ Some o
   find_own number o here = find_poured number ∙ find_append_some number o own others here
+
+  pub find_neither : (number : ℕ) → find number own ≡ None → find number others ≡ None → find number (poured own others) ≡ None
+  find_neither number here there = find_poured number ∙ find_append_none number own others here there
 
   pub lowest_poured : (test : Order → Bool) → lowest_by test (poured own others) ≡ lower_of (lowest_in test own) (lowest_in test others)
   lowest_poured test =

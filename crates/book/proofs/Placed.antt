@@ -19,6 +19,9 @@ pub found_or_not : (f : Option Order) → ((o : Order) × (f ≡ Some o)) ⊎ (f
 found_or_not None = inr refl
 found_or_not (Some o) = inl (o, refl)
 
+pub some_none : (o : Order) → Some o ≡ None → ⊥
+some_none o is = cc
+
 none_there : (f : Option Order) → not (is_some f) ≡ true → f ≡ None
 none_there None h = refl
 none_there (Some o) h = cc
@@ -140,7 +143,7 @@ lowest_pour test (x ∷ xs) apart =
     let parts = distinct_parts x xs apart in
     lowest_place test 0 x (pour xs []) (ascends_pour xs parts.1) ∙ ap (lower_of (cond (test x) (Some x.number) None)) (lowest_pour test xs parts.1)
 
-lower_assoc : (a b c : Option ℕ) → lower_of a (lower_of b c) ≡ lower_of (lower_of a b) c
+pub lower_assoc : (a b c : Option ℕ) → lower_of a (lower_of b c) ≡ lower_of (lower_of a b) c
 lower_assoc None b c = refl
 lower_assoc (Some a) None c = refl
 lower_assoc (Some a) (Some b) None = refl
@@ -164,6 +167,16 @@ reduce_lowest test (x ∷ xs) =
       | true ↦ reduce_more x.number (map (λ o. o.number) (filter test xs)) ∙ ap (lower_of (Some x.number)) (reduce_lowest test xs)
       | false ↦ reduce_lowest test xs
     ]
+
+pub lower_none : (a : Option ℕ) → lower_of a None ≡ a
+lower_none None = refl
+lower_none (Some a) = refl
+
+pub lowest_in_pour : (test : Order → Bool) (xs : List Order) → distinct xs ≡ true → lowest_by test (pour xs []) ≡ lowest_in test xs
+lowest_in_pour test xs apart = lowest_pour test xs apart ∙ sym (reduce_lowest test xs)
+
+pub lowest_in_append : (test : Order → Bool) (xs ys : List Order) → lowest_in test (xs ++ ys) ≡ lower_of (lowest_in test xs) (lowest_in test ys)
+lowest_in_append test xs ys = reduce_lowest test (xs ++ ys) ∙ lowest_append test xs ys ∙ sym (λ i. lower_of (reduce_lowest test xs i) (reduce_lowest test ys i))
 
 -- a change of the order placed
 less_first : (size : ℕ) (o p : Order) (ps : List Order) → leb o.number p.number ≡ true → less size o ++ p ∷ ps ≡ pour (less size o) (p ∷ ps)
