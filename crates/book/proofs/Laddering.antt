@@ -1,5 +1,5 @@
 -- What changes of one side make of the book. Assumes nothing.
-use Rattle.std.proofs.Common.{◌≡◌, ℕ, ◌+◌, ◌<◌, Bool, true, ltb, List, [], ◌++◌, length, Some, None, sym, refl, ap, ◌∙◌, arith}
+use Rattle.std.proofs.Common.{◌≡◌, ℕ, ◌+◌, ◌<◌, Bool, true, ltb, List, [], ◌++◌, length, Some, None, sym, refl, ap, ◌∙◌, subst, arith}
 use Rattle.std.proofs.lemmas.Bool.{lt-ltb}
 use Rattle.terms.specs.Side.{other_side}
 use Rattle.terms.specs.declared.side.Side.{Side}
@@ -129,3 +129,7 @@ module _ {side : Side} {own others : List Order} (l : Laddered side own others) 
         others_sized = l.others_sized;
         few = omega (arith, l.few, length_enter (woken_at moment o) (without number own), length_without number o own here);
       }
+
+-- the same of lists that are known to be these
+pub sound_as : {side : Side} {own others : List Order} (own' others' : List Order) → own' ≡ own → others' ≡ others → Laddered side own others → Sound 256 (poured own' others')
+sound_as own' others' p q l = subst (Sound 256) (sym (λ i. poured (p i) (q i))) (sound l)
