@@ -46,7 +46,7 @@ module _ (maker : ℕ) (slot : Option Quote) (own : OfMaker maker slot) where
 pub put_own : (maker : ℕ) (q : Quote) → Ok tt ≡ put_answer (one_admitted maker) q → OfMaker maker (Some q)
 put_own maker q granted p is = (grind (arith, nat_tests), grind (arith, nat_tests), grind (arith, nat_tests))
 
-one_written : (maker : ℕ) (quotes : BySide (Option Quote)) (side : Side) (slot : Option Quote) → one_maker maker (with_side side slot quotes) ≡ with_side side (set_slot maker slot (on_side side (one_maker maker quotes))) (one_maker maker quotes)
+pub one_written : (maker : ℕ) (quotes : BySide (Option Quote)) (side : Side) (slot : Option Quote) → one_maker maker (with_side side slot quotes) ≡ with_side side (set_slot maker slot (on_side side (one_maker maker quotes))) (one_maker maker quotes)
 one_written maker quotes Buy slot = let again = set_slot_again maker quotes.buy slot no_quotes in cc
 one_written maker quotes Sell slot = let again = set_slot_again maker quotes.sell slot no_quotes in cc
 

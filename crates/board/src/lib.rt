@@ -30,12 +30,15 @@ pub trait Board {
     // The quotes that stand.
     ghost sides: { Self → Sides };
 
+    // Each call says what holds of every board, for a caller through a `dyn`, which has no law.
     fn admits(&self, maker: u32) -> bool
-        ensures { result ≡ admitted self.now maker };
+        ensures answer { result ≡ admitted self.now maker }
+        ensures lawful { Lawful (admitted self.now) (sides self.now) };
 
     // Whether a quote may be put: its maker is admitted, and its size is above 0.
     fn check(&self, quote: &Quote) -> Result<(), BoardRefusal>
-        ensures { result ≡ put_answer (admitted self.now) quote.now }
+        ensures answer { result ≡ put_answer (admitted self.now) quote.now }
+        ensures lawful { Lawful (admitted self.now) (sides self.now) }
     {
         if !self.admits(quote.maker) {
             return Err(BoardRefusal::NotAdmitted);
@@ -51,15 +54,18 @@ pub trait Board {
         ensures answer { result ≡ put_answer (admitted self.old) quote }
         ensures can { is_ok result ≡ may_put (admitted self.old) quote }
         ensures after { sides self.new ≡ (if is_ok result then putting side quote (sides self.old) else sides self.old) }
-        ensures makers { admitted self.new ≡ admitted self.old };
+        ensures makers { admitted self.new ≡ admitted self.old }
+        ensures lawful { Lawful (admitted self.new) (sides self.new) };
 
     // Lifts both quotes of a maker, if any stand.
     fn lift(&mut self, maker: u32)
         ensures after { sides self.new ≡ lifting maker (sides self.old) }
-        ensures makers { admitted self.new ≡ admitted self.old };
+        ensures makers { admitted self.new ≡ admitted self.old }
+        ensures lawful { Lawful (admitted self.new) (sides self.new) };
 
     fn best(&self, side: Side) -> Option<Quote>
         ensures answer { result ≡ best side (sides self.now) }
+        ensures lawful { Lawful (admitted self.now) (sides self.now) }
         ensures law { Best side (on_side side (sides self.now)) result };
 
     // Takes a size from a maker's quote, unless there is none or it has less. A quote of size 0 is gone.
@@ -67,11 +73,13 @@ pub trait Board {
         ensures answer { result ≡ take_answer size (slot_of maker (on_side side (sides self.old))) }
         ensures can { is_ok result ≡ may_take size (slot_of maker (on_side side (sides self.old))) }
         ensures after { sides self.new ≡ (if is_ok result then taking side maker size (sides self.old) else sides self.old) }
-        ensures makers { admitted self.new ≡ admitted self.old };
+        ensures makers { admitted self.new ≡ admitted self.old }
+        ensures lawful { Lawful (admitted self.new) (sides self.new) };
 
     fn clear(&mut self)
         ensures after { sides self.new ≡ clear }
-        ensures makers { admitted self.new ≡ admitted self.old };
+        ensures makers { admitted self.new ≡ admitted self.old }
+        ensures lawful { Lawful (admitted self.new) (sides self.new) };
 
     // What holds of every board, whatever is done with it.
     ghost lawful: { (b : Self) → Lawful (admitted b) (sides b) };

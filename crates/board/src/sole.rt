@@ -1,8 +1,9 @@
 // The board of one maker.
-ghost use Rattle.std.specs.Prelude.{◌≡◌};
-ghost use Rattle.terms.specs.BySide.{on_side};
+ghost use Rattle.std.specs.Prelude.{◌≡◌, ◌==◌, false, Some};
+ghost use Rattle.terms.specs.BySide.{on_side, with_side};
 ghost use Rattle.terms.specs.declared.side.Side.{Side};
-ghost use Rattle.board.specs.Board.{OfMaker, clear};
+ghost use Rattle.board.specs.declared.quote.Quote.{Quote};
+ghost use Rattle.board.specs.Board.{OfMaker, Lawful, slot_of, set_slot, lifting, clear};
 
 use crate::Board;
 use crate::quote::Quote;
@@ -18,8 +19,7 @@ pub struct Sole {
 }
 
 impl Sole {
-    ghost use Rattle.board.specs.Kinds.{sole_sides};
-    ghost use Rattle.board.specs.Board.{slot_of};
+    ghost use Rattle.board.specs.Kinds.{sole_admits, sole_sides};
 
     // No quote stands.
     pub fn new(maker: u32) -> Self
@@ -35,12 +35,35 @@ impl Sole {
         }
     }
 
+    // Whether a number is that of its maker; another has no quotes.
+    fn owns(&self, number: u32) -> bool
+        ensures answer { result ≡ (number == self.now.maker) }
+        ensures others { result ≡ false → lifting number (sole_sides self.now) ≡ sole_sides self.now }
+        ensures lawful { Lawful (sole_admits self.now) (sole_sides self.now) }
+    {
+        number == self.maker
+    }
+
     // A maker's quote on a side: another than the board's has none.
     #[tactic(auto, using(crate::proofs::Soles::found_in))]
     fn get(&self, side: Side, maker: u32) -> Option<Quote>
-        ensures { result ≡ slot_of maker (on_side side (sole_sides self.now)) }
+        ensures answer { result ≡ slot_of maker (on_side side (sole_sides self.now)) }
+        ensures own { (q : Quote) → result ≡ Some q → maker ≡ self.now.maker }
+        ensures quote { OfMaker maker result }
+        ensures lawful { Lawful (sole_admits self.now) (sole_sides self.now) }
     {
         self.quotes.on(side).filter(|quote| quote.maker == maker)
+    }
+
+    // Writes its maker's slot.
+    #[tactic(auto, using(crate::proofs::Soles::one_written))]
+    fn set(&mut self, side: Side, slot: Option<Quote>)
+        requires { OfMaker self.old.maker slot }
+        ensures after { sole_sides self.new ≡ with_side side (set_slot self.old.maker slot (on_side side (sole_sides self.old))) (sole_sides self.old) }
+        ensures maker { self.new.maker ≡ self.old.maker }
+        ensures lawful { Lawful (sole_admits self.new) (sole_sides self.new) }
+    {
+        *self.quotes.on_mut(side) = slot;
     }
 }
 
@@ -55,18 +78,19 @@ impl Board for Sole {
     ghost lawful = { λ b. sole_lawful b.maker b.quotes b.own };
 
     fn admits(&self, maker: u32) -> bool {
-        maker == self.maker && is_maker(maker)
+        self.owns(maker) && is_maker(maker)
     }
 
     fn put(&mut self, side: Side, quote: Quote) -> Result<(), BoardRefusal> {
         self.check(&quote)?;
-        *self.quotes.on_mut(side) = Some(quote);
+        self.set(side, Some(quote));
         Ok(())
     }
 
     fn lift(&mut self, maker: u32) {
-        if maker == self.maker {
-            self.clear();
+        if self.owns(maker) {
+            self.set(Side::Buy, None);
+            self.set(Side::Sell, None);
         }
     }
 
@@ -75,10 +99,12 @@ impl Board for Sole {
         *self.quotes.on(side)
     }
 
-    #[tactic(auto, using(crate::proofs::Soles::taken))]
     fn take(&mut self, side: Side, maker: u32, size: u32) -> Result<(), BoardRefusal> {
         let quote = self.get(side, maker).ok_or(BoardRefusal::NoQuote)?;
-        *self.quotes.on_mut(side) = quote.taken(size)?;
+        if quote.size < size {
+            return Err(BoardRefusal::TooLarge);
+        }
+        self.set(side, quote.less(size));
         Ok(())
     }
 

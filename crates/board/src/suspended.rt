@@ -40,7 +40,7 @@ impl<B: Board> Board for Suspended<B> {
     }
 
     fn put(&mut self, side: Side, quote: Quote) -> Result<(), BoardRefusal> {
-        if quote.maker == self.maker {
+        if !self.admits(quote.maker) {
             return Err(BoardRefusal::NotAdmitted);
         }
         self.below.put(side, quote)
