@@ -63,6 +63,7 @@ impl Board for Table {
     }
 
     fn clear(&mut self) {
-        *self = Table::new();
+        self.slots.buy = Slots::new();
+        self.slots.sell = Slots::new();
     }
 }
