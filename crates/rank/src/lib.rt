@@ -47,7 +47,7 @@ impl<S: Slot> Slot for Option<S> {
     ghost stands = { λ pick o. through (S.Slot.stands pick) o };
 
     fn standing(&self, pick: S::Pick) -> Option<S::Entry> {
-        self.as_ref()?.standing(pick)
+        self.as_ref().and_then(|slot| slot.standing(pick))
     }
 }
 
