@@ -1,9 +1,10 @@
 -- The best quote of a side. Assumes nothing.
-use Rattle.std.proofs.Common.{◌≡◌, ℕ, ◌-◌, List, get_or, Some, None, Option, refl, sym, ap, ◌∙◌, arith}
+use Rattle.std.proofs.Common.{◌≡◌, ℕ, ◌-◌, ◌<◌, List, length, get_or, Some, None, Option, refl, sym, ap, ◌∙◌, arith}
 use Rattle.std.proofs.Math.ListN.{get_or-map}
 use Rattle.std.proofs.lemmas.Bool.Decides.{nat_tests}
+use Rattle.std.proofs.lemmas.List.{length-map}
 use Rattle.std.specs.Option.{option_map, option_and_then}
-use Rattle.rank.specs.Firsts.{through, leader, first_place, Leads}
+use Rattle.rank.specs.Firsts.{through, leader, first_place, Leads, Finds}
 use Rattle.rank.proofs.Laws.{leader_leads, search_finds, leads_others}
 use Rattle.terms.specs.declared.side.Side.{Side}
 use Rattle.board.specs.declared.quote.Quote.{Quote}
@@ -41,6 +42,19 @@ module _ (side : Side) (slots : List (Option Quote)) where
   -- the quote at the place that the search gives is the first
   pub at_first : (place : Option ℕ) → place ≡ first_place entry_before (entries side slots) → option_and_then (λ i. get_or slots i None) place ≡ first_quote side slots
   at_first place is = rw is (read_at (leader entry_before (entries side slots)) refl)
+
+  -- the same of a place, and of none
+  pub at_place : (place : ℕ) → Some place ≡ first_place entry_before (entries side slots) → get_or slots place None ≡ first_quote side slots
+  at_place place is = at_first (Some place) is
+
+  pub none_first : None ≡ first_place entry_before (entries side slots) → None ≡ first_quote side slots
+  none_first is = at_first None is
+
+  -- the place that the search gives is one of the slots
+  pub found_within : (place : ℕ) → length slots ≡ 16 → Finds entry_before (entries side slots) (Some place) → place < 16
+  found_within place sixteen f =
+      let h : place < length (entries side slots) = (f.leads place refl).1.within in
+      omega (arith, length-map slots (as_entry side))
 
   module _ (own : OfOwnMaker slots) where
     leading : (place : ℕ) (q : Quote) → get_or slots place None ≡ Some q → Leads entry_before (entries side slots) place (entry_of side q) → Leading side slots q

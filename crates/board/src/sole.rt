@@ -61,6 +61,7 @@ impl Sole {
         requires { OfMaker self.old.maker slot }
         ensures after { sole_sides self.new ≡ with_side side (set_slot self.old.maker slot (on_side side (sole_sides self.old))) (sole_sides self.old) }
         ensures maker { self.new.maker ≡ self.old.maker }
+        ensures makers { sole_admits self.new ≡ sole_admits self.old }
         ensures lawful { Lawful (sole_admits self.new) (sole_sides self.new) }
     {
         *self.quotes.on_mut(side) = slot;

@@ -4,6 +4,9 @@ use Rattle.std.proofs.lemmas.Bool.{cases_Bool, cond-true, cond-false, both_ways}
 use Rattle.std.specs.Option.{option_map}
 use Rattle.rank.specs.Firsts.{ahead, first_from, leader, Leads, Finds}
 
+pub none_some : {X : Type 0} (x : X) → ◌≡◌ {A = Option X} None (Some x) → ⊥
+none_some x h = cc
+
 module _ {E : Type 0} (before : E → E → Bool) where
   ahead_none : (best : Option (ℕ × E)) (at : ℕ) (o : Option E) → ahead before best at o ≡ None → (best ≡ None) × (o ≡ None)
   ahead_none best at None h = (h, refl)
