@@ -30,7 +30,6 @@ pub trait Board {
     // The quotes that stand.
     ghost sides: { Self → Sides };
 
-    // Each call says what holds of every board, for a caller through a `dyn`, which has no law.
     fn admits(&self, maker: u32) -> bool
         ensures answer { result ≡ admitted self.now maker }
         ensures lawful { Lawful (admitted self.now) (sides self.now) };
@@ -81,6 +80,6 @@ pub trait Board {
         ensures makers { admitted self.new ≡ admitted self.old }
         ensures lawful { Lawful (admitted self.new) (sides self.new) };
 
-    // What holds of every board, whatever is done with it.
+    // What holds of every board, whatever is done with it. Each call ensures it too, since a `dyn` has no law.
     ghost lawful: { (b : Self) → Lawful (admitted b) (sides b) };
 }
