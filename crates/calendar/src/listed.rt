@@ -23,7 +23,7 @@ impl<'a> Listed<'a> {
 fn first_holding(stretches: &[Stretch], minute: u32) -> Option<Stretch>
     ensures { result ≡ find (λ s. holds s minute) stretches.now }
 {
-    stretches.iter().find(|s| s.holds(minute)).copied()
+    stretches.iter().copied().find(|s| s.holds(minute))
 }
 
 impl Calendar for Listed<'_> {

@@ -91,11 +91,13 @@ fn hours_of(group: Group, weekday: Weekday, summer: bool) -> SessionHours
     ensures { result ≡ hours_of group weekday summer }
 {
     let earlier = if summer { 60 } else { 0 };
-    let winter_end = match (group, weekday) {
-        (Group::Yen, Weekday::Friday) => 6 * 60,
-        (Group::Yen, _) => 6 * 60 + 55,
-        (Group::Cross, Weekday::Friday) => 5 * 60 + 30,
-        (Group::Cross, _) => 6 * 60 + 25,
+    let (end, friday_end) = match group {
+        Group::Yen => (6 * 60 + 55, 6 * 60),
+        Group::Cross => (6 * 60 + 25, 5 * 60 + 30),
+    };
+    let end = match weekday {
+        Weekday::Friday => friday_end - earlier,
+        _ => end - earlier,
     };
     match weekday {
         Weekday::Saturday | Weekday::Sunday => SessionHours {
@@ -106,12 +108,12 @@ fn hours_of(group: Group, weekday: Weekday, summer: bool) -> SessionHours
         Weekday::Monday => SessionHours {
             pre_open: 6 * 60 + 10,
             matching: 7 * 60 + 10,
-            end: winter_end - earlier,
+            end,
         },
         _ => SessionHours {
             pre_open: 7 * 60 + 45 - earlier,
             matching: 7 * 60 + 55 - earlier,
-            end: winter_end - earlier,
+            end,
         },
     }
 }
