@@ -1,5 +1,5 @@
 -- The lines of a file by its end, and the rows that give the file back. Assumes nothing.
-use Rattle.std.proofs.Common.{◌≡◌, ℕ, ◌+◌, ◌<◌, Bool, true, false, cond, eqb, ◌⊎◌, List, [], ◌∷◌, ◌++◌, map, Some, None, Option, Bor, MatchOption, unwrap_or, ◌≢◌, length, sym, refl, ap, ◌∙◌, inl, inr, ⊎_elim, arith}
+use Rattle.std.proofs.Common.{◌≡◌, ℕ, ◌+◌, ◌<◌, Bool, true, false, cond, eqb, ◌⊎◌, List, [], ◌∷◌, ◌++◌, map, Some, None, Option, Bor, MatchOption, unwrap_or, ◌≢◌, length, sym, refl, ap, ◌∙◌, inl, inr, ⊎_elim, append_assoc, arith}
 use Rattle.std.proofs.lemmas.Bool.{eqb-true}
 use Rattle.std.proofs.lemmas.List.Splits.{join_with_byte-slice_split}
 use Rattle.std.specs.List.{onto_first, join_with_byte}
@@ -59,10 +59,40 @@ lines_back : (line : ℕ) (ls : List (List ℕ)) → map row_text (rows_from lin
 lines_back line [] = refl
 lines_back line (l ∷ ls) = λ i. (ap (join_with_byte 44) (bytes_placed line 1 (split 44 l)) ∙ join_with_byte-slice_split 44 l) i ∷ lines_back (line + 1) ls i
 
+-- without its empty end, a list of lines lacks at most the last byte 10
+abbrev Ends : List (List ℕ) → List (List ℕ) → Type 0
+Ends ps qs = (join_with_byte 10 ps ≡ join_with_byte 10 qs) ⊎ (join_with_byte 10 ps ++ 10 ∷ [] ≡ join_with_byte 10 qs)
+
+ends_more : (p : List ℕ) (q w : List ℕ) (ps ws : List (List ℕ)) → Ends (w ∷ ws) (q ∷ ps) → Ends (p ∷ w ∷ ws) (p ∷ q ∷ ps)
+ends_more p q w ps ws e =
+    ⊎_elim
+    (λ h. inl (ap (λ l. p ++ 10 ∷ l) h))
+    (λ h. inr (append_assoc p (10 ∷ join_with_byte 10 (w ∷ ws)) (10 ∷ []) ∙ ap (λ l. p ++ 10 ∷ l) h)) e
+
+ends : (ps : List (List ℕ)) → Ends (without_empty_end ps) ps
+ends [] = inl refl
+ends ([] ∷ []) = inl refl
+ends ((b ∷ bs) ∷ []) = inl refl
+ends (p ∷ [] ∷ []) = inr refl
+ends (p ∷ (b ∷ bs) ∷ []) = inl refl
+ends (p ∷ q ∷ r ∷ ps) = ends_more p q q (r ∷ ps) (without_empty_end (r ∷ ps)) (ends (q ∷ r ∷ ps))
+
+pub join_split : (mark : ℕ) (bs : List ℕ) → join_with_byte mark (split mark bs) ≡ bs
+join_split mark bs = join_with_byte-slice_split mark bs
+
+pub rejoined : (file : List ℕ) → Rejoins (rows file) file
+rejoined file =
+    let back : text_of (rows file) ≡ join_with_byte 10 (lines file) = ap (join_with_byte 10) (lines_back 1 (lines file)) in
+    ⊎_elim
+    (λ h. inl (back ∙ h ∙ join_split 10 file))
+    (λ h. inr (ap (λ l. l ++ 10 ∷ []) back ∙ h ∙ join_split 10 file))
+    (ends (split 10 file))
+
 text_back : (text : List ℕ) → text_of (rows_from 1 (split 10 text)) ≡ text
 text_back text = ap (join_with_byte 10) (lines_back 1 (split 10 text)) ∙ join_with_byte-slice_split 10 text
 
-pub rejoined : (file text : List ℕ) → split 10 text ≡ lines file → (text ≡ file) ⊎ (text ++ 10 ∷ [] ≡ file) → Rejoins (rows file) file
-rejoined file text same back =
+-- the same of any text with the file's lines
+pub rejoined_from : (file text : List ℕ) → split 10 text ≡ lines file → (text ≡ file) ⊎ (text ++ 10 ∷ [] ≡ file) → Rejoins (rows file) file
+rejoined_from file text same back =
     let all : text_of (rows file) ≡ text = ap (λ ls. text_of (rows_from 1 ls)) (sym same) ∙ text_back text in
     ⊎_elim (λ h. inl (all ∙ h)) (λ h. inr (ap (λ l. l ++ 10 ∷ []) all ∙ h)) back

@@ -1,6 +1,6 @@
 // The fields of a day file.
 ghost use Rattle.std.specs.Prelude.{◌≡◌};
-ghost use Rattle.dayfile.specs.Text.{kind_of, token_kind, token_bytes};
+ghost use Rattle.dayfile.specs.Text.{all_digits, kind_of, token_kind, token_bytes};
 
 // What a field of a day file holds, as a part of the file's own bytes: each case is read in its own way.
 #[derive(Clone, Copy, Debug)]
@@ -24,6 +24,12 @@ pub struct Row<'a> {
     pub fields: Vec<Field<'a>>,
 }
 
+fn only_digits(bytes: &[u8]) -> bool
+    ensures { result ≡ all_digits bytes.now }
+{
+    bytes.iter().all(|b| b.is_ascii_digit())
+}
+
 impl<'a> Token<'a> {
     // Blank with no bytes, digits with digits alone, else a word. A `From` would say no more, in one unnamed clause.
     pub fn of(bytes: &'a [u8]) -> Self
@@ -32,7 +38,7 @@ impl<'a> Token<'a> {
     {
         if bytes.is_empty() {
             Token::Blank(bytes)
-        } else if bytes.iter().all(|b| b.is_ascii_digit()) {
+        } else if only_digits(bytes) {
             Token::Digits(bytes)
         } else {
             Token::Word(bytes)

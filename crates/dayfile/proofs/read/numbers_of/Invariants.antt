@@ -1,13 +1,8 @@
-use Rattle.std.proofs.Common.{◌≡◌, ℕ, List, ◌++◌, map, length, take, drop, Ok, Err, Result}
-use Rattle.dayfile.specs.declared.fault.Fault.{Fault}
+use Rattle.std.proofs.Common.{◌≡◌, map, length, take, drop}
 use Rattle.dayfile.specs.Reading.{numbers}
 use Rattle.dayfile.specs.Text.{place_of}
+use Rattle.dayfile.proofs.Numbers.{ahead}
 use Rattle.dayfile.proofs.read.numbers_of.Given as goal
-
--- the numbers read so far before those that are left, if these are numbers
-abbrev pub ahead : List ℕ → Result (List ℕ) Fault → Result (List ℕ) Fault
-ahead xs (Ok ys) = Ok (xs ++ ys)
-ahead xs (Err f) = Err f
 
 abbrev pub invariant-loop-i : goal.invariant-loop-i
 invariant-loop-i l =

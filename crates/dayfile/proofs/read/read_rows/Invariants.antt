@@ -1,12 +1,8 @@
-use Rattle.std.proofs.Common.{◌≡◌, ◌+◌, ◌≤◌, List, ◌++◌, map, length, vec_items}
-use Rattle.dayfile.specs.declared.reading.Numbered.{Numbered}
-use Rattle.dayfile.specs.Reading.{Read, read_from}
+use Rattle.std.proofs.Common.{◌≡◌, ◌+◌, ◌≤◌, map, length, vec_items}
+use Rattle.dayfile.specs.Reading.{read_from}
 use Rattle.dayfile.specs.Text.{places_of}
+use Rattle.dayfile.proofs.Rows.{behind}
 use Rattle.dayfile.proofs.read.read_rows.Given as goal
-
--- what is read so far, before what is read from the rows that are left
-abbrev pub behind : List Numbered → Read → Read
-behind cs r = record { calls = cs ++ r.calls; fault = r.fault }
 
 abbrev pub invariant-loop-line : goal.invariant-loop-line
 invariant-loop-line l =

@@ -5,7 +5,7 @@ use Rattle.std.proofs.lemmas.List.{length_push, at_drop_more, at_drop_all}
 use Rattle.std.proofs.lemmas.List.FromFn.{length-enumerate_from}
 use Rattle.std.proofs.lemmas.Grind.{common_steps}
 use Rattle.dayfile.specs.Text.{rows, rows_from, places_of, split, lines, Rejoins}
-use Rattle.dayfile.proofs.Joins.{rejoined}
+use Rattle.dayfile.proofs.Joins.{rejoined_from}
 use Rattle.dayfile.proofs.Turns.{turn, end, on, counted, item}
 use Rattle.dayfile.proofs.text.rows_of.Goals as goal
 
@@ -27,4 +27,4 @@ returns c =
     let last = end c.loop-i.yielded _ c.loop-i.yielded_by _ _ c.in-None.is c.next.ensures.steps (YieldsList-at c.into_iter-i-iterator.ensures.into_iter_gives (YieldsList-from_enumerate (YieldsList-at c.enumerate-i-items.ensures.source (YieldsList-from_slice_split _ (λ b. eqb b 10) c.without_end.result.now cuts.rest cuts.done cuts.closure (λ x b q k. search rules))) c.enumerate-i-items.ensures.count)) in
     let none = at_drop_all (rows_from (length c.loop-i.yielded + 1)) (lines c.args.file.now) (length c.loop-i.yielded) (omega (arith, last.1, length-enumerate_from 0 (split 10 c.without_end.result.now), ap length c.without_end.ensures.lines)) in
     let all : map places_of c.loop-i.out.items ≡ rows c.args.file.now = grind (arith, common_steps) in
-    (omega arith, all, subst (λ l. Rejoins l c.args.file.now) (sym all) (rejoined c.args.file.now c.without_end.result.now c.without_end.ensures.lines c.without_end.ensures.back))
+    (omega arith, all, subst (λ l. Rejoins l c.args.file.now) (sym all) (rejoined_from c.args.file.now c.without_end.result.now c.without_end.ensures.lines c.without_end.ensures.back))
