@@ -53,7 +53,8 @@ impl SessionDay {
         starts_on(Weekday::of(self.day), self.day, self.year.first_day())
     }
 
-    // What the minute is in the session of the day.
+    // What the minute is in the session of the day. Never inlined, so that a minute above the last costs a caller no more than its test.
+    #[inline(never)]
     #[tactic(auto, unfolding(crate::specs::Timetable::session_phase))]
     fn phase(self, group: Group, minute: u32) -> Phase
         ensures { result ≡ session_phase group self.day minute }
