@@ -8,4 +8,4 @@ pub mod Laddering
 pub mod Placed
 pub mod Places
 pub mod Shelves
-pub mod Tests
+pub mod WholeLists
