@@ -56,9 +56,7 @@ module _ {side : Side} {own others : List Order} (l : Laddered side own others) 
   pub cut_own : (n size : ℕ) → can_cut n size own ≡ true → (can_cut n size (poured own others) ≡ true) × (poured (cut n size own) others ≡ cut n size (poured own others))
   cut_own n size may =
       ⊎_elim
-      (λ here.
-      let whole : can_cut n size (poured own others) ≡ true = ap (has_left size) (find_own l n here.0 here.1 ∙ sym here.1) ∙ may in
-      (whole, ap (λ x. poured x others) (cond-true _ _ _ may) ∙ cut_poured l n size here.0 here.1 ∙ sym (cond-true _ _ _ whole)))
+      (λ here. (ap (has_left size) (find_here l n here.0 here.1) ∙ may, (cut_here l n here.0 here.1 size).1))
       (λ no_own. absurd (both_ways (can_cut n size own) (ap (has_left size) no_own) may))
       (found_or_not (find n own))
 
@@ -80,20 +78,10 @@ module _ {side : Side} {own others : List Order} (l : Laddered side own others) 
       (cases_Bool (can_cut n size own))
 
   -- likewise for waking
-  waiting_one : (n : ℕ) → can_wake n own ≡ true → (o : Order) × ((find n own ≡ Some o) × (o.waiting ≡ true))
-  waiting_one n may =
-      ⊎_elim
-      (λ here. (here.0, (here.1, sym (ap waits here.1) ∙ may)))
-      (λ none. absurd (both_ways (can_wake n own) (ap waits none) may))
-      (found_or_not (find n own))
-
   pub wake_own : (n moment : ℕ) → can_wake n own ≡ true → (can_wake n (poured own others) ≡ true) × (poured (wake_ranked n moment own) others ≡ woken n moment (poured own others))
   wake_own n moment may =
       ⊎_elim
-      (λ here.
-      let up : here.0.waiting ≡ true = sym (ap waits here.1) ∙ may in
-      let whole : can_wake n (poured own others) ≡ true = ap waits (find_own l n here.0 here.1) ∙ up in
-      (whole, ap (λ x. poured x others) (ap (wake_found n moment own) here.1 ∙ cond-true _ _ _ up) ∙ wake_poured l n moment here.0 here.1 ∙ sym (cond-true _ _ _ whole)))
+      (λ here. (ap waits (find_here l n here.0 here.1) ∙ may, (wake_here l n here.0 here.1 moment).1))
       (λ no_own. absurd (both_ways (can_wake n own) (ap waits no_own) may))
       (found_or_not (find n own))
 
@@ -116,9 +104,9 @@ module _ {side : Side} {own others : List Order} (l : Laddered side own others) 
   pub wake_keeps : (n moment : ℕ) → Laddered side (wake_ranked n moment own) others
   wake_keeps n moment =
       ⊎_elim
-      (λ may. subst (λ x. Laddered side x others) (sym (ap (wake_found n moment own) (waiting_one n may).1.0 ∙ cond-true _ _ _ (waiting_one n may).1.1)) (wake_laddered l n moment (waiting_one n may).0 (waiting_one n may).1.0))
-      (λ refused. subst (λ x. Laddered side x others) (sym (wake_unchanged n moment refused)) l)
-      (cases_Bool (can_wake n own))
+      (λ here. (wake_here l n here.0 here.1 moment).0)
+      (λ none. subst (λ x. Laddered side x others) (sym (ap (wake_found n moment own) none)) l)
+      (found_or_not (find n own))
 
 -- changes of the other side
 module _ {side : Side} {own others : List Order} (l : Laddered side own others) where

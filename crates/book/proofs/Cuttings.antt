@@ -10,17 +10,6 @@ use Rattle.book.specs.Orders.{find, with_left, woken_at, less, cut_from, has_lef
 use Rattle.book.proofs.Changing.{ranked_cut, distinct_cut_all, length_cut}
 
 module _ (number size : ℕ) (orders : List Order) where
-  module _ {place : ℕ} {o : Order} (s : Stands number orders place o) where
-    less_is : (rest : Option Order) → MatchOption rest (o.left ≤ size) (λ p. (size < o.left) × (p ≡ with_left (o.left - size) o)) → option_to_list rest ≡ less size o
-    less_is None low = sym (cond-false _ _ _ (le-ltb size o.left low))
-    less_is (Some p) h = ap (λ p. p ∷ []) h.1 ∙ sym (cond-true _ _ _ (lt-ltb size o.left h.0))
-
-    -- what is left of the order stands in its place
-    pub cut_done : size ≤ o.left → (rest : Option Order) → MatchOption rest (o.left ≤ size) (λ p. (size < o.left) × (p ≡ with_left (o.left - size) o)) → take place orders ++ (option_to_list rest ++ drop (suc place) orders) ≡ cut number size orders
-    cut_done low rest is =
-        let may : can_cut number size orders ≡ true = ap (has_left size) s.here ∙ le-leb size o.left low in
-        ap (λ l. take place orders ++ (l ++ drop (suc place) orders)) (less_is rest is) ∙ sym (s.cut size) ∙ sym (cond-true _ _ _ may)
-
   -- what holds of the orders and of those with a cut holds of them after it, cut or not
   either : (P : List Order → Type 0) → P (cut_from number size orders) → P orders → P (cut number size orders)
   either P after before = cond_both (can_cut number size orders) (cut_from number size orders) orders P (λ _. after) (λ _. before)
@@ -63,6 +52,14 @@ module _ (number size : ℕ) (orders : List Order) where
         let new = with_left (o.left - size) o in
         let done = cut_down (omega arith) (new ∷ []) (cond-true _ _ _ (lt-ltb size o.left low)) in
         (done.0, set_split orders i new f.within ∙ done.1)
+
+    less_is : (rest : Option Order) → MatchOption rest (o.left ≤ size) (λ p. (size < o.left) × (p ≡ with_left (o.left - size) o)) → less size o ≡ option_to_list rest
+    less_is None low = cond-false _ _ _ (le-ltb size o.left low)
+    less_is (Some p) h = cond-true _ _ _ (lt-ltb size o.left h.0) ∙ ap (λ p. p ∷ []) (sym h.1)
+
+    -- what is left of the order stands in its place
+    pub cut_done : size ≤ o.left → (rest : Option Order) → MatchOption rest (o.left ≤ size) (λ p. (size < o.left) × (p ≡ with_left (o.left - size) o)) → take i orders ++ (option_to_list rest ++ drop (suc i) orders) ≡ cut number size orders
+    cut_done low rest is = (cut_down low (option_to_list rest) (less_is rest is)).1
 
 module _ (number moment : ℕ) (orders : List Order) where
   pub wake_nowhere : find number orders ≡ None → (false ≡ can_wake number orders) × (orders ≡ wake_ranked number moment orders)

@@ -1,9 +1,9 @@
 -- The lowest order, and the book without it. Assumes nothing.
-use Rattle.std.proofs.Common.{◌≡◌, ℕ, ◌<◌, true, List, [], ◌∷◌, ◌++◌, length, Some, None, IfSome, IfNone, Option, sym, refl, ap, ◌∙◌, arith}
+use Rattle.std.proofs.Common.{◌≡◌, ℕ, ◌<◌, true, List, [], ◌∷◌, ◌++◌, length, Some, None, IfSome, IfNone, Option, sym, refl, ap, ◌∙◌, subst, arith}
 use Rattle.std.proofs.lemmas.Bool.{eq-eqb, le-leb, le-ltb, cond-true, cond-false}
 use Rattle.book.specs.declared.order.Order.{Order}
 use Rattle.book.specs.Orders.{find, lowest, has_left, can_cut, cut}
-use Rattle.book.proofs.Placed.{some_none}
+use Rattle.book.proofs.Changing.{found_number}
 
 pub nothing_left : (orders : List Order) → None ≡ lowest orders → orders ≡ []
 nothing_left [] is = refl
@@ -25,24 +25,13 @@ none_lowest = nothing_left
 
 module _ (number : ℕ) where
   pub lowest_found : (orders : List Order) → Some number ≡ lowest orders → None ≡ find number orders → ⊥
-  lowest_found [] is none = let z : ◌≡◌ {A = ℕ} 0 1 = cc in omega arith
-  lowest_found (o ∷ os) is none =
-      let same : number ≡ o.number = cc in
-      let here : find number (o ∷ os) ≡ Some o = cond-true _ _ _ (eq-eqb o.number number (sym same)) in
-      some_none o (sym (none ∙ here))
+  lowest_found [] is none = cc
+  lowest_found (o ∷ os) is none = let nothing = (lowest_goes number (o ∷ os) is None none).1 in cc
 
   -- cut to nothing, it is gone
   pub lowest_gone : (orders : List Order) (o : Order) → Some number ≡ lowest orders → Some o ≡ find number orders → length (cut number o.left orders) < length orders
-  lowest_gone [] o is found = absurd (let z : ◌≡◌ {A = ℕ} 0 1 = cc in omega arith)
-  lowest_gone (p ∷ ps) o is found =
-      let same : number ≡ p.number = cc in
-      let hit = eq-eqb p.number number (sym same) in
-      let here : find number (p ∷ ps) ≡ Some p = cond-true _ _ _ hit in
-      let one : o ≡ p = (let z : Some o ≡ Some p = found ∙ here in cc) in
-      let left : o.left ≡ p.left = ap (λ q. q.left) one in
-      let may : can_cut number o.left (p ∷ ps) ≡ true = ap (has_left o.left) here ∙ le-leb o.left p.left (omega arith) in
-      let gone : cut number o.left (p ∷ ps) ≡ ps = cond-true _ _ _ may ∙ cond-true _ _ _ hit ∙ ap (λ l. l ++ ps) (cond-false _ _ _ (le-ltb o.left p.left (omega arith))) in
-      omega (arith, ap length gone)
+  lowest_gone orders o is found =
+      subst (λ n. length (cut n o.left orders) < length orders) (found_number number o orders (sym found)) (lowest_goes number orders is (Some o) found).0
 
   pub found_cut : (orders : List Order) (o : Order) → Some o ≡ find number orders → can_cut number o.left orders ≡ true
   found_cut orders o found = ap (has_left o.left) (sym found) ∙ le-leb o.left o.left (omega arith)
